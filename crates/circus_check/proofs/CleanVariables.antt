@@ -13,17 +13,19 @@ use Rattle.circus_type.specs.Inside.{also_name, repeated_name, inside}
 use Rattle.circus_type.specs.Limits.{most_parts, most_zero_bytes}
 use Rattle.circus_type.specs.Meaning.{shape_of_type}
 use Rattle.circus_type.specs.Obeys.{ObeysInside, ObeysWhole}
-use Rattle.circus_type.specs.Scale.{written_out}
+use Rattle.circus_type.specs.Scale.{Scale, written_out}
 use Rattle.circus_type.specs.Together.{shapes_of, names_of, parts_of, zero_size_of}
 use Rattle.circus_type.specs.Whole.{whole_faults}
 use Rattle.circus_type.specs.Written.{parts}
 use Rattle.circus_fault.proofs.NoFaults.{no_fault}
 use Rattle.circus_type.proofs.NoFaults.{names_apart}
+use Rattle.circus_type.proofs.InsideInRange.{in_range}
 use Rattle.circus_type.proofs.WholeTypes.{whole_obeys, clean_none}
 use Rattle.circus_resolve.specs.Causes.{of_type}
 use Rattle.circus_resolve.specs.Faults.{Faults}
 use Rattle.circus_lang.specs.ModuleTree.{ModuleTree, VariableTree}
 use Rattle.circus_lang.specs.WrittenModule.{IsVariable}
+use Rattle.circus_check.specs.InRange.{AreVariablesInRange}
 use Rattle.circus_check.specs.Faults.{variables_faults, variables_parts, plain_faults, fields_of, state_faults}
 
 pub both_none : (xs ys : Faults) → xs ≡ [] → ys ≡ [] → xs ++ ys ≡ []
@@ -34,6 +36,17 @@ pub parts_counted : (forms : TypeName → ShapeTree) (before : ℕ) (vs : List V
 parts_counted forms before [] = omega arith
 parts_counted forms before (v ∷ vs) =
     omega (arith, parts_counted forms (before + 1 * parts (shape_of_type forms v.shape)) vs, sum_by-cons parts (shape_of_type forms v.shape) (shapes_of (fields_of forms vs)))
+
+-- variables without a fault have no number that is out of range
+pub variables_in_range : {S : Type 0} (scale : Scale S) (unknown : TypeName → Option ℕ) (sizes : TypeName → S) (before : ℕ) (earlier : List ℕ → Bool) (vs : List VariableTree) → variables_faults scale unknown sizes before earlier vs ≡ [] → AreVariablesInRange vs
+variables_in_range scale unknown sizes before earlier [] none = tt
+variables_in_range scale unknown sizes before earlier (v ∷ vs) none =
+    let repeated = repeated_name of_type earlier v.name in
+    let faults = whole_faults of_type scale unknown sizes None before 1 v.shape in
+    let (front, rest) = none_in (repeated ++ faults) _ none in (
+      in_range of_type unknown v.shape (none_in (inside of_type unknown v.shape) _ (none_in repeated faults front).1).0,
+      variables_in_range scale unknown sizes (scale.parts_with before 1 (scale.of_type sizes v.shape)) (also_name v.name.name earlier) vs rest,
+    )
 
 module _ (unknown : TypeName → Option ℕ) (forms : TypeName → ShapeTree) where
   -- variables behind earlier names and so many parts

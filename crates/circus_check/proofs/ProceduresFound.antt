@@ -10,7 +10,7 @@ use Rattle.circus_fault.proofs.Items.{none_in}
 use Rattle.circus_fault.proofs.LeastIs.{no_least, never_lost}
 use Rattle.circus_fault.proofs.LeastMore.{least_then, least_step}
 use Rattle.circus_fault.proofs.NoFaults.{no_fault}
-use Rattle.circus_type.specs.Inside.{also_name}
+use Rattle.circus_type.specs.Inside.{no_name, also_name}
 use Rattle.circus_type.specs.Limits.{most_parts}
 use Rattle.circus_type.specs.Scale.{written_out}
 use Rattle.circus_resolve.specs.declared.cause.CheckCause.{CheckCause}
@@ -24,12 +24,14 @@ use Rattle.circus_idl.specs.Obeys.{Obeys}
 use Rattle.circus_lang.specs.ModuleTree.{ModuleTree, ProcedureOf}
 use Rattle.circus_check.specs.Naming.{interface_called}
 use Rattle.circus_check.specs.Scope.{offered_behind, offered_by, offered_in, offered_here, implemented_by}
-use Rattle.circus_check.specs.Faults.{has_procedure, forms, offer_of, variables_parts, procedure_faults, body_faults, unless_behind, whole_procedure, procedures_faults}
+use Rattle.circus_check.specs.InRange.{AreVariablesInRange}
+use Rattle.circus_check.specs.Faults.{also_fields, also_variables, arguments_of, unknown_place, has_procedure, forms, offer_of, variables_parts, procedure_faults, body_faults, unless_behind, whole_procedure, procedures_faults}
 use Rattle.circus_check.specs.Meaning.{in_interface_order}
 use Rattle.circus_check.specs.Seen.Programs.{order_of}
 use Rattle.circus_check.specs.Seen.Tables.{unless_kept}
 use Rattle.circus_check.proofs.BodiesPlaced.{AreApart, IsThere, in_place}
 use Rattle.circus_check.proofs.Interfaces.{procedures_distinct}
+use Rattle.circus_check.proofs.CleanVariables.{variables_in_range}
 use Rattle.circus_check.proofs.Standings.{called_obeys}
 
 -- what is kept was found
@@ -73,6 +75,11 @@ module _ (interfaces : List Interface) (modules : List ModuleTree) (i : ℕ) (m 
   new_clean : (before : ℕ) (names : List ℕ → Bool) (p : ProcedureOf StatementTree) → procedure_faults interfaces modules i m before names p ≡ [] → names p.name.name ≡ false
   new_clean before names p clean =
       no_fault _ _ _ (none_in _ _ (none_in _ _ (none_in _ _ clean).0).0).1
+
+  -- and its variables have no number that is out of range
+  pub locals_in_range : (before : ℕ) (names : List ℕ → Bool) (p : ProcedureOf StatementTree) → procedure_faults interfaces modules i m before names p ≡ [] → AreVariablesInRange p.body.variables
+  locals_in_range before names p clean =
+      variables_in_range written_out (unknown_place interfaces modules i m) (forms interfaces modules i m) before (also_fields (arguments_of (offer_of interfaces modules i m p)) (also_variables m.variables no_name)) p.body.variables (none_in _ _ clean).1
 
   -- one that offers nothing has a fault
   pub nothing_offered : (before : ℕ) (names : List ℕ → Bool) (p : ProcedureOf StatementTree) (best new : Option (Fault CheckCause)) → new ≡ least_from rank best (procedure_faults interfaces modules i m before names p)

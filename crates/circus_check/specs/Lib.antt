@@ -3,6 +3,7 @@ pub mod Reach
 pub mod ReachByImports
 pub mod Scope
 pub mod Faults
+pub mod InRange
 pub mod Plain
 pub mod TextOrder
 pub mod Answer

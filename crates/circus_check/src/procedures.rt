@@ -14,6 +14,7 @@ ghost use Rattle.circus_body.specs.Meaning.{all_do};
 ghost use Rattle.circus_body.specs.Seen.Named.{known_offer, offered_as};
 ghost use Rattle.circus_lang.specs.ModuleTree.{module_of, procedure_of, variable_of};
 ghost use Rattle.circus_check.specs.Scope.{offered_here, implemented_by};
+ghost use Rattle.circus_check.specs.InRange.{AreVariablesInRange};
 ghost use Rattle.circus_check.specs.Faults as faults;
 ghost use Rattle.circus_check.specs.Meaning as meaning;
 ghost use Rattle.circus_check.specs.Seen.Meant.{body_as};
@@ -214,6 +215,8 @@ fn body<'s>(
         (IsAround program.now own.now
         (field_trees (faults.fields_of (form_in own.now.types)
         (module_of own.now.text.now).variables)) around.now) }
+    requires in_range { IfNone best.old.fault
+        (AreVariablesInRange (procedure_of text.now).body.variables) }
     requires offers { Some (offered_as offers.now)
         ≡ faults.offer_of (interfaces_in program.now) (modules_in program.now) own.now.number
         (module_of own.now.text.now) (procedure_of text.now) }

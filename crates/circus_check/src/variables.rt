@@ -8,6 +8,7 @@ ghost use Rattle.circus_type.specs.Seen.Measured.{cut_off};
 ghost use Rattle.circus_resolve.specs.Causes.{rank, of_type};
 ghost use Rattle.circus_resolve.specs.declared.cause.CheckCause.TheVariants.{TooLarge};
 ghost use Rattle.circus_lang.specs.ModuleTree.{variable_of};
+ghost use Rattle.circus_check.specs.InRange.{AreVariablesInRange};
 ghost use Rattle.circus_check.specs.Faults.{variables_faults, variables_parts, plain_faults, fields_of, also_variables};
 ghost use Rattle.circus_type.specs.Inside.{also_name, repeated_name};
 ghost use Rattle.circus_check.specs.Seen.Tables.{either};
@@ -140,6 +141,7 @@ pub fn fields(
     scope: &TypeScope<'_, '_>,
     list: &[VariableText],
 ) -> Result<Fields, NoMemory>
+    requires { AreVariablesInRange (map variable_of list.now) }
     ensures { IfOk result (λ fields.
         fields ≡ fields_of (form_in scope.now) (map variable_of list.now)) }
 {

@@ -1,5 +1,5 @@
 -- A deployment without a fault obeys the rules of deployments.
-use Rattle.std.proofs.Common.{◌≡◌, ◌≢◌, ℕ, zero, suc, ◌+◌, ◌<◌, ◌≤◌, ◌⊎◌, Bool, true, false, List, [], ◌∷◌, ◌++◌, length, map, refl, sym, ◌∙◌, ap, subst, arith, Option, Some, None}
+use Rattle.std.proofs.Common.{◌≡◌, ◌≢◌, ℕ, zero, suc, ◌+◌, ◌<◌, ◌≤◌, ◌⊎◌, Bool, true, false, List, [], ◌∷◌, ◌++◌, length, map, refl, sym, ◌∙◌, ap, subst, arith, append_assoc, Option, Some, None}
 use Rattle.std.specs.Prelude.{min, ◌&&◌, if◌then◌else◌, is_none, is_some, nat_lt, ◌==◌, slice_get, AllPairs, IsTrue, option_map, option_to_list, unwrap_or}
 use Rattle.std.specs.List.{AllByRecursion, flat_map, list_all}
 use Rattle.std.specs.Char.{is_ascii_alphabetic, is_ascii_alphanumeric, is_ascii_digit}
@@ -7,6 +7,7 @@ use Rattle.std.proofs.lemmas.Bool.{and_parts, ltb-false}
 use Rattle.std.proofs.lemmas.Bool.Decides.{nat_tests}
 use Rattle.std.proofs.lemmas.List.{map-append, length-append, length-map}
 use Rattle.std.proofs.lemmas.List.Elements.{All-from_recursion}
+use Rattle.std.proofs.lemmas.Option.{same_Some}
 use Rattle.std.proofs.lemmas.List.Kept.{AllPairs-cons}
 use Rattle.circus_text.specs.declared.byte_class.ByteClass.TheVariants.{Letter, Digit, Quote, Space, Mark, Other}
 use Rattle.circus_text.specs.ByteClass.{quote, is_space, is_mark, class_of, is_word_class}
@@ -19,7 +20,6 @@ use Rattle.circus_fault.proofs.KnownNames.{all_numbered}
 use Rattle.circus_fault.proofs.NoFaults.{no_fault}
 use Rattle.circus_type.specs.Distinct.{AreDistinct}
 use Rattle.circus_type.specs.Limits.{greatest_word}
-use Rattle.circus_type.specs.Meaning.{word_of}
 use Rattle.circus_type.proofs.Items.{all_appended}
 use Rattle.circus_lang.specs.ModuleTree.{ModuleTree}
 use Rattle.circus_troupe.specs.declared.deployment_text.WrittenKind.{WrittenKind}
@@ -31,10 +31,13 @@ use Rattle.circus_troupe.specs.DeploymentSpelling.{IsCallKind, IsHostText, IsTro
 use Rattle.circus_collate.specs.declared.kind.Kind.TheVariants.{Watchdog}
 use Rattle.circus_collate.specs.declared.deployment.Troupe.{Troupe}
 use Rattle.circus_collate.specs.declared.deployment.Host.{Host}
+use Rattle.circus_collate.specs.declared.deployment.Deployment.{Deployment}
 use Rattle.circus_collate.specs.Deployment.{is_word, IsKind, IsTroupe, IsHost, IsDeployment}
 use Rattle.circus_limits.specs.Limits.{most_nodes, greatest_port}
 use Rattle.circus_deployment.specs.Nodes.{spares_of, hosts_of, ringmaster_host, nodes_of, numbered_from, number_troupes, module_numbers, troupe_numbers}
 use Rattle.circus_deployment.specs.Nodes as nodes
+use Rattle.circus_deployment.specs.InRange.{IsKindInRange, AreHostsInRange, IsTroupeInRange, IsInRange}
+use Rattle.circus_deployment.specs.Seen.{as_words, deployment_made}
 use Rattle.circus_deployment.specs.Faults.{no_nodes, nodes_faults, troupes_faults, first_without_troupe, deployment_faults}
 use Rattle.circus_deployment.specs.Meaning.{kind_of, host_meant, module_of_troupe, hosts_meant, nodes_meant, numbers_from, troupe_meant, troupe_at, troupes_meant, deployment_meant}
 use Rattle.circus_deployment.proofs.Clean.{host_name, host_port, troupe_name, module_name, AreNodes, nodes_clean, IsNeeded, IsTroupeClean, AreTroupes, troupes_clean, none_lacks, item_of, some_number}
@@ -162,12 +165,8 @@ nodes_alike f g same modules d = λ i. same None (ringmaster_host d.ringmaster) 
 names_are : (modules : Known) (d : DeploymentText) → map (λ (h : Host). h.name) (nodes_meant modules d) ≡ map host_name (nodes_of d)
 names_are modules d = nodes_alike (λ h. h.name) host_name (λ o h. refl) modules d
 
-words_are : (hs : List HostText) → AllByRecursion (λ n. (0 < n) × (n ≤ greatest_port)) (map host_port hs) → map (λ h. word_of h.port) hs ≡ map host_port hs
-words_are [] all = refl
-words_are (h ∷ hs) all = let word : min h.port.value greatest_word ≡ h.port.value = omega (arith, all.0.1) in λ i. word i ∷ words_are hs all.1 i
-
-ports_are : (modules : Known) (d : DeploymentText) → AllByRecursion (λ n. (0 < n) × (n ≤ greatest_port)) (map host_port (nodes_of d)) → map (λ (h : Host). h.port) (nodes_meant modules d) ≡ map host_port (nodes_of d)
-ports_are modules d all = nodes_alike (λ h. h.port) (λ h. word_of h.port) (λ o h. refl) modules d ∙ words_are (nodes_of d) all
+ports_are : (modules : Known) (d : DeploymentText) → map (λ (h : Host). h.port) (nodes_meant modules d) ≡ map host_port (nodes_of d)
+ports_are modules d = nodes_alike (λ h. h.port) host_port (λ o h. refl) modules d
 
 -- ---- which module a node hosts
 
@@ -189,27 +188,24 @@ record HasNumber (modules : List ModuleTree) (t : TroupeText) : Type 0 where
   number : ℕ
   is : module_numbers modules t.name.name ≡ Some number
   below : number < length modules
-  hosted : module_of_troupe (module_numbers modules) t ≡ Some number
 
-has_number : (modules : List ModuleTree) (t : TroupeText) → length modules ≤ 32 → is_none (module_numbers modules t.name.name) ≡ false → HasNumber modules t
-has_number modules t few none =
+has_number : (modules : List ModuleTree) (t : TroupeText) → is_none (module_numbers modules t.name.name) ≡ false → HasNumber modules t
+has_number modules t none =
     let (number, is) = some_number (module_numbers modules t.name.name) none in
-    let below = (all_numbered module_name modules).below t.name.name number is in
-    let small : min number greatest_word ≡ number = omega (arith, below, few) in
-    record { number = number; is = is; below = below; hosted = ap (option_map (λ n. min n greatest_word)) is ∙ ap (λ n. Some n) small }
+    record { number = number; is = is; below = (all_numbered module_name modules).below t.name.name number is }
 
-all_numbers : (modules : List ModuleTree) (ts : List TroupeText) → length modules ≤ 32 → AllByRecursion (IsTroupeClean (module_numbers modules)) ts → AllByRecursion (HasNumber modules) ts
-all_numbers modules [] few clean = tt
-all_numbers modules (t ∷ ts) few clean = (has_number modules t few clean.0.known, all_numbers modules ts few clean.1)
+all_numbers : (modules : List ModuleTree) (ts : List TroupeText) → AllByRecursion (IsTroupeClean (module_numbers modules)) ts → AllByRecursion (HasNumber modules) ts
+all_numbers modules [] clean = tt
+all_numbers modules (t ∷ ts) clean = (has_number modules t clean.0.known, all_numbers modules ts clean.1)
 
 numbers_hosted : (modules : List ModuleTree) (ts : List TroupeText) → AllByRecursion (HasNumber modules) ts → AllByRecursion (λ (t : TroupeText). IsHosted (length modules) (module_of_troupe (module_numbers modules) t)) ts
 numbers_hosted modules [] all = tt
-numbers_hosted modules (t ∷ ts) all = ((all.0.number, all.0.hosted, all.0.below), numbers_hosted modules ts all.1)
+numbers_hosted modules (t ∷ ts) all = ((all.0.number, all.0.is, all.0.below), numbers_hosted modules ts all.1)
 
 -- a troupe that hosts the module has the name of the one that has its number
 single_name : (modules : List ModuleTree) (m : ℕ) (name : List ℕ) (t : TroupeText) → module_numbers modules name ≡ Some m → HasNumber modules t → Single (module_numbers modules) m name t
 single_name modules m name t is H hosts_it =
-    let same : H.number ≡ m = cc in
+    let same : H.number ≡ m = same_Some H.number m (sym H.is ∙ hosts_it) in
     (all_numbered module_name modules).single t.name.name name m (H.is ∙ ap (λ n. Some n) same) is
 
 all_single : (modules : List ModuleTree) (m : ℕ) (name : List ℕ) (ts : List TroupeText) → module_numbers modules name ≡ Some m → AllByRecursion (HasNumber modules) ts → AllByRecursion (Single (module_numbers modules) m name) ts
@@ -299,7 +295,6 @@ some_listed P (x ∷ xs) listed = omega arith
 
 -- a deployment without a fault over modules
 record Faultless (modules : List ModuleTree) (d : DeploymentText) : Type 0 where
-  few : length modules ≤ 32
   distinct : AreDistinct (map module_name modules)
   written_so : IsDeploymentText d
   nodes_are : AreNodes no_nodes (nodes_of d)
@@ -319,11 +314,10 @@ none_in_each modules end d none =
     let (nodes_none, troupes_none) = none_in (nodes_faults no_nodes (nodes_of d)) (troupes_faults (module_numbers modules) nobody 0 d.troupes) two in
     (nodes_none, troupes_none, none_is lacks (no_fault _ _ _ missing))
 
-faultless : (modules : List ModuleTree) (end : ℕ) (d : DeploymentText) → length modules ≤ 32 → AreDistinct (map module_name modules) → IsDeploymentText d → deployment_faults modules end d ≡ [] → Faultless modules d
-faultless modules end d few distinct good none =
+faultless : (modules : List ModuleTree) (end : ℕ) (d : DeploymentText) → AreDistinct (map module_name modules) → IsDeploymentText d → deployment_faults modules end d ≡ [] → Faultless modules d
+faultless modules end d distinct good none =
     let (nodes_none, troupes_none, lacks_none) = none_in_each modules end d none in
     record {
-      few = few;
       distinct = distinct;
       written_so = good;
       nodes_are = nodes_clean no_nodes (nodes_of d) nodes_none;
@@ -339,7 +333,7 @@ troupe_good modules d m troupe F M = subst (IsTroupe (nodes_meant (module_number
   members =
       sym (numbers_more x.first (length t.members) (length (spares_of t)))
       ∙ ap (numbers_from x.first) (sym (length-append t.members (spares_of t)))
-      ∙ sym (members_are (module_numbers modules) m d.troupes 1 M.found.place x F.troupes_are.names (all_single modules m t.name.name d.troupes is numbers) hosted M.found.there);
+      ∙ sym (members_are (module_numbers modules) m d.troupes 1 M.found.place x F.troupes_are.names (all_single modules m t.name.name d.troupes is numbers) is M.found.there);
   calls = kind_good t.calls.kind clean.calls;
   no_watchdog = no_watchdog t.calls.kind good.1;
   replies = kind_good t.replies.kind clean.replies;
@@ -355,7 +349,7 @@ troupe_good modules d m troupe F M = subst (IsTroupe (nodes_meant (module_number
     here = numbered_in 1 d.troupes M.found.place x M.found.there
 
     numbers : AllByRecursion (HasNumber modules) d.troupes
-    numbers = all_numbers modules d.troupes F.few F.troupes_are.clean
+    numbers = all_numbers modules d.troupes F.troupes_are.clean
 
     clean : IsTroupeClean (module_numbers modules) t
     clean = in_place (IsTroupeClean (module_numbers modules)) d.troupes F.troupes_are.clean M.found.place t here
@@ -372,9 +366,6 @@ troupe_good modules d m troupe F M = subst (IsTroupe (nodes_meant (module_number
     is : module_numbers modules t.name.name ≡ Some m
     is = H.is ∙ ap (λ n. Some n) number_is
 
-    hosted : module_of_troupe (module_numbers modules) t ≡ Some m
-    hosted = H.hosted ∙ ap (λ n. Some n) number_is
-
 -- a node
 node_good : (modules : List ModuleTree) (d : DeploymentText) (troupes : List Troupe) → length troupes ≡ length modules → Faultless modules d → (k : ℕ) (host : Host) → slice_get (nodes_meant (module_numbers modules) d) k ≡ Some host → IsHost troupes k host
 node_good modules d troupes many F k host is = by_place k is
@@ -387,7 +378,7 @@ node_good modules d troupes many F k host is = by_place k is
     port : (j : ℕ) → slice_get (nodes_meant (module_numbers modules) d) j ≡ Some host → (0 < host.port) × (host.port ≤ greatest_port)
     port j there =
         in_place (λ n. (0 < n) × (n ≤ greatest_port)) (map (λ (h : Host). h.port) (nodes_meant (module_numbers modules) d))
-        (subst (AllByRecursion (λ n. (0 < n) × (n ≤ greatest_port))) (sym (ports_are (module_numbers modules) d F.nodes_are.ranged)) F.nodes_are.ranged) j host.port
+        (subst (AllByRecursion (λ n. (0 < n) × (n ≤ greatest_port))) (sym (ports_are (module_numbers modules) d)) F.nodes_are.ranged) j host.port
         (mapped_at (λ (h : Host). h.port) (nodes_meant (module_numbers modules) d) j host there)
 
     by_place : (j : ℕ) → slice_get (nodes_meant (module_numbers modules) d) j ≡ Some host → IsHost troupes j host
@@ -405,7 +396,7 @@ node_good modules d troupes many F k host is = by_place k is
         first = cc
     by_place (suc j) there =
         let (n, own, below) = in_place (λ (h : Host). IsHosted (length modules) h.module) (flat_map (hosts_meant (module_numbers modules)) d.troupes)
-        (all_hosted (module_numbers modules) (length modules) d.troupes (numbers_hosted modules d.troupes (all_numbers modules d.troupes F.few F.troupes_are.clean))) j host there in
+        (all_hosted (module_numbers modules) (length modules) d.troupes (numbers_hosted modules d.troupes (all_numbers modules d.troupes F.troupes_are.clean))) j host there in
         record {
           name = (name (suc j) there).0;
           short_name = (name (suc j) there).1;
@@ -417,11 +408,11 @@ node_good modules d troupes many F k host is = by_place k is
 pub obeys : (modules : List ModuleTree) (end format : ℕ) (d : DeploymentText) → (format ≡ 1) ⊎ (format ≡ 2) → length modules ≤ 32 → AreDistinct (map module_name modules) → IsDeploymentText d
     → deployment_faults modules end d ≡ [] → IsDeployment (deployment_meant modules format d)
 obeys modules end format d in_format few distinct good none =
-    let F = faultless modules end d few distinct good none in
+    let F = faultless modules end d distinct good none in
     let A = made d.troupes modules (all_troupes d.troupes modules F.none_lacks_one) in
     let all = nodes_meant (module_numbers modules) d in
     let names = names_are (module_numbers modules) d in
-    let ports = ports_are (module_numbers modules) d F.nodes_are.ranged in
+    let ports = ports_are (module_numbers modules) d in
     let count : length all ≡ length (nodes_of d) = sym (length-map all (λ (h : Host). h.name)) ∙ ap length names ∙ length-map (nodes_of d) host_name in
     record {
       few_troupes = omega (arith, A.many, few);
@@ -437,6 +428,53 @@ obeys modules end format d in_format few distinct good none =
 -- a deployment without a fault has few nodes
 pub few_nodes : (modules : List ModuleTree) (end : ℕ) (d : DeploymentText) → deployment_faults modules end d ≡ [] → length (nodes_of d) ≤ most_nodes
 few_nodes modules end d none = omega (arith, (nodes_clean no_nodes (nodes_of d) (none_in_each modules end d none).0).few (omega arith))
+
+-- ---- words
+
+ports_in_range : (hs rest : List HostText) → AllByRecursion (λ n. (0 < n) × (n ≤ greatest_port)) (map host_port (hs ++ rest)) → AreHostsInRange hs × AllByRecursion (λ n. (0 < n) × (n ≤ greatest_port)) (map host_port rest)
+ports_in_range [] rest all = (tt, all)
+ports_in_range (h ∷ hs) rest all =
+    let (own, others) = ports_in_range hs rest all.1 in
+    ((omega (arith, all.0.1), own), others)
+
+kind_in_range : (k : WrittenKind) → IsNeeded k → IsKindInRange k
+kind_in_range written.First needed = tt
+kind_in_range written.Majority needed = tt
+kind_in_range written.Unanimous needed = tt
+kind_in_range (written.AtLeast n) needed = omega (arith, needed.1)
+kind_in_range written.Watchdog needed = tt
+
+troupes_in_range : (modules : Known) (ts : List TroupeText) → AllByRecursion (λ n. (0 < n) × (n ≤ greatest_port)) (map host_port (flat_map hosts_of ts)) → AllByRecursion (IsTroupeClean modules) ts → AllByRecursion IsTroupeInRange ts
+troupes_in_range modules [] ports clean = tt
+troupes_in_range modules (t ∷ ts) ports clean =
+    let all = flat_map hosts_of ts in
+    let (members, others) = ports_in_range t.members (spares_of t ++ all) (subst (λ hs. AllByRecursion (λ n. (0 < n) × (n ≤ greatest_port)) (map host_port hs)) (append_assoc t.members (spares_of t) all) ports) in
+    let (spares, rest) = ports_in_range (spares_of t) all others in (
+      record { calls = kind_in_range t.calls.kind clean.0.calls; replies = kind_in_range t.replies.kind clean.0.replies; members = members; spares = spares },
+      troupes_in_range modules ts rest clean.1,
+    )
+
+-- in a deployment without a fault every number is one of one word
+pub is_in_range : (modules : List ModuleTree) (end : ℕ) (d : DeploymentText) → deployment_faults modules end d ≡ [] → IsInRange d
+is_in_range modules end d none =
+    let (nodes_none, troupes_none, lacks_none) = none_in_each modules end d none in
+    let ranged = (nodes_clean no_nodes (nodes_of d) nodes_none).ranged in
+    record { ringmaster = omega (arith, ranged.0.1); troupes = troupes_in_range (module_numbers modules) d.troupes ranged.1 (troupes_clean (module_numbers modules) nobody 0 d.troupes troupes_none).clean }
+
+-- the numbers of few modules are words
+words_are : (modules : List ModuleTree) → length modules ≤ greatest_word → as_words (module_numbers modules) ≡ module_numbers modules
+words_are modules few = λ i name. by_number (module_numbers modules name) ((all_numbered module_name modules).below name) i
+  where
+    by_number : (o : Option ℕ) → ((k : ℕ) → o ≡ Some k → k < length modules) → option_map (λ n. min n greatest_word) o ≡ o
+    by_number None below = refl
+    by_number (Some k) below = let small : min k greatest_word ≡ k = omega (arith, below k refl, few) in ap (λ n. Some n) small
+
+-- so what is made is what is meant
+pub made_as_meant : (modules : List ModuleTree) (format : ℕ) (d : DeploymentText) → length modules ≤ greatest_word → deployment_made modules format d ≡ deployment_meant modules format d
+made_as_meant modules format d few = ap (λ (numbers : Known). with_nodes (nodes_meant numbers d)) (words_are modules few)
+  where
+    with_nodes : List Host → Deployment
+    with_nodes nodes = record { troupes = troupes_meant (number_troupes d.troupes) (troupe_numbers d.troupes) modules; nodes = nodes; format = format }
 
 -- ---- roots
 

@@ -1,5 +1,5 @@
 -- The faults of a deployment as it is written, over the modules of its program.
-use Rattle.std.specs.Prelude.{ℕ, ◌+◌, min, Bool, true, ◌==◌, cond, List, [], ◌∷◌, ◌++◌, Option, Some, None, is_some, is_none, slice_get}
+use Rattle.std.specs.Prelude.{ℕ, ◌+◌, Bool, true, ◌==◌, cond, List, [], ◌∷◌, ◌++◌, Option, Some, None, is_some, is_none, slice_get}
 use Rattle.circus_syntax.specs.declared.named.Named.{Named}
 use Rattle.circus_syntax.specs.declared.named.Numeral.{Numeral}
 use Rattle.circus_fault.specs.declared.fault.Fault.{Fault}
@@ -21,7 +21,7 @@ Faults = List (Fault Cause)
 
 -- ---- nodes
 
--- the nodes that stand before a place: their names, their ports, and how many they are, up to one more than there may be
+-- the nodes that stand before a place: their names, their ports, and how many they are
 pub record Before : Type 0 where
   pub names : Known
   pub ports : ℕ → Bool
@@ -39,7 +39,7 @@ abbrev pub behind_node : Before → Named → Numeral → Before
 behind_node before name port = record {
   names = add_name name.name 0 before.names;
   ports = also_number port.value before.ports;
-  count = min (before.count + 1) (most_nodes + 1);
+  count = before.count + 1;
 }
 
 -- nodes one behind the other

@@ -1,10 +1,8 @@
 -- What a deployment means: the nodes in the order of the text, and the troupes in that of their modules.
-use Rattle.std.specs.Prelude.{ℕ, ◌+◌, min, List, [], ◌∷◌, map, length, Option, None, option_map, option_and_then, option_to_list, slice_get}
+use Rattle.std.specs.Prelude.{ℕ, ◌+◌, List, [], ◌∷◌, map, length, Option, None, option_map, option_and_then, option_to_list, slice_get}
 use Rattle.std.proofs.Common.{zero, suc}
 use Rattle.std.specs.List.{flat_map}
 use Rattle.circus_fault.specs.Known.{Known}
-use Rattle.circus_type.specs.Limits.{greatest_word}
-use Rattle.circus_type.specs.Meaning.{word_of}
 use Rattle.circus_lang.specs.ModuleTree.{ModuleTree}
 use Rattle.circus_troupe.specs.declared.deployment_text.WrittenKind.{WrittenKind}
 use Rattle.circus_troupe.specs.declared.deployment_text.WrittenKind.TheVariants as written
@@ -22,16 +20,16 @@ abbrev pub kind_of : WrittenKind → Kind
 kind_of written.First = First
 kind_of written.Majority = Majority
 kind_of written.Unanimous = Unanimous
-kind_of (written.AtLeast n) = AtLeast (word_of n)
+kind_of (written.AtLeast n) = AtLeast n.value
 kind_of written.Watchdog = Watchdog
 
 -- a node that hosts a member of this module
 abbrev pub host_meant : Option ℕ → HostText → Host
-host_meant «module» h = record { name = h.name.name; port = word_of h.port; «module» = «module» }
+host_meant «module» h = record { name = h.name.name; port = h.port.value; «module» = «module» }
 
 -- the number of a troupe's module
 abbrev pub module_of_troupe : Known → TroupeText → Option ℕ
-module_of_troupe modules t = option_map (λ number. min number greatest_word) (modules t.name.name)
+module_of_troupe modules t = modules t.name.name
 
 abbrev pub hosts_meant : Known → TroupeText → List Host
 hosts_meant modules t = map (host_meant (module_of_troupe modules t)) (hosts_of t)

@@ -3,6 +3,7 @@ ghost use Rattle.std.specs.Prelude.{◌≡◌, ◌⊎◌, ◌≤◌, [], map, le
 ghost use Rattle.circus_fault.specs.declared.fault.Fault.{Fault};
 ghost use Rattle.circus_fault.specs.Least.{least_from};
 ghost use Rattle.circus_fault.specs.Seen.Tables.{known_of};
+ghost use Rattle.circus_type.specs.Limits.{greatest_word};
 ghost use Rattle.circus_type.specs.Distinct.{AreDistinct};
 ghost use Rattle.circus_syntax.specs.declared.named.Named.{Named};
 ghost use Rattle.circus_lang.specs.ModuleTree.{ModuleTree, module_of};
@@ -16,6 +17,8 @@ ghost use Rattle.circus_limits.specs.Limits.{most_nodes};
 ghost use Rattle.circus_deployment.specs.Nodes.{nodes_of, module_numbers, troupe_numbers};
 ghost use Rattle.circus_deployment.specs.Faults.{first_without_troupe, deployment_faults};
 ghost use Rattle.circus_deployment.specs.Meaning.{deployment_meant};
+ghost use Rattle.circus_deployment.specs.InRange.{IsInRange};
+ghost use Rattle.circus_deployment.specs.Seen.{deployment_made};
 ghost use Rattle.circus_deployment.specs.Answer.{answer_of};
 
 use crate::cause::Cause;
@@ -68,9 +71,10 @@ fn deployment_of(
     troupes: &Names,
 ) -> Result<Deployment, NoMemory>
     requires few { length (nodes_of text.now) ≤ most_nodes }
+    requires in_range { IsInRange text.now }
     requires modules { known_of numbers.now ≡ module_numbers (map module_of modules.now) }
     requires troupes { known_of troupes.now ≡ troupe_numbers text.now.troupes }
-    ensures { IfOk result (λ d. d ≡ deployment_meant (map module_of modules.now) format text.now) }
+    ensures { IfOk result (λ d. d ≡ deployment_made (map module_of modules.now) format text.now) }
 {
     let numbered = meaning::number_troupes(alloc, text.troupes.as_slice())?;
     Ok(Deployment {
@@ -96,7 +100,9 @@ pub fn check(
 ) -> Result<Deployment, DeploymentFault>
     ensures faultless { IfOk result (λ d.
         deployment_faults (map module_of modules.now) end text.now ≡ []) }
-    ensures meant { IfOk result (λ d.
+
+    // Each of fewer modules than 2^16 has a number of one word.
+    ensures meant { length modules.now ≤ greatest_word → IfOk result (λ d.
         d ≡ deployment_meant (map module_of modules.now) format text.now) }
 
     // Over at most 32 modules of different names, a deployment as it is written obeys the rules of deployments.

@@ -5,9 +5,11 @@ ghost use Rattle.circus_fault.specs.Seen.Tables.{known_of};
 ghost use Rattle.circus_lang.specs.ModuleTree.{module_of};
 ghost use Rattle.circus_limits.specs.Limits.{most_nodes};
 ghost use Rattle.circus_deployment.specs.Nodes.{spares_of, hosts_of, number_troupes};
+ghost use Rattle.circus_type.specs.InRange.{IsOneWord};
+ghost use Rattle.circus_deployment.specs.InRange.{IsKindInRange, AreHostsInRange, IsTroupeInRange, IsInRange};
 ghost use Rattle.circus_deployment.specs.Meaning.{kind_of, host_meant, module_of_troupe, hosts_meant, nodes_meant, numbers_from, troupe_meant, troupe_at, troupes_meant};
 ghost use Rattle.circus_deployment.specs.declared.meaning.NumberedTroupe.{NumberedTroupe};
-ghost use Rattle.circus_deployment.specs.Seen.{numbered_as};
+ghost use Rattle.circus_deployment.specs.Seen.{numbered_as, as_words};
 
 use circus_collate::{Host, Hosts, Kind, Troupe, Troupes};
 use circus_fault::Names;
@@ -19,6 +21,7 @@ use circus_value::{Duplicate, NoMemory, Nodes};
 use std::alloc::Global;
 
 fn kind(text: KindText) -> Kind
+    requires { IsKindInRange text.kind }
     ensures { result ≡ kind_of text.kind }
 {
     match text.kind {
@@ -32,6 +35,7 @@ fn kind(text: KindText) -> Kind
 
 // A node that hosts a member of this module.
 fn host(name: &Named, port: Numeral, hosted: Option<u16>) -> Result<Host, NoMemory>
+    requires { IsOneWord port }
     ensures { IfOk result (λ host.
         host ≡ host_meant hosted (record { name = name.now; port = port })) }
 {
@@ -42,8 +46,9 @@ fn host(name: &Named, port: Numeral, hosted: Option<u16>) -> Result<Host, NoMemo
     })
 }
 
+// Its number, which stops at the greatest word.
 fn module_of_troupe(modules: &Names, troupe: &TroupeText) -> Option<u16>
-    ensures { result ≡ module_of_troupe (known_of modules.now) troupe.now }
+    ensures { result ≡ module_of_troupe (as_words (known_of modules.now)) troupe.now }
 {
     modules
         .get(troupe.name.name.as_slice())
@@ -51,6 +56,7 @@ fn module_of_troupe(modules: &Names, troupe: &TroupeText) -> Option<u16>
 }
 
 fn add_hosts(nodes: &mut Hosts, hosts: &[HostText], hosted: Option<u16>) -> Result<(), NoMemory>
+    requires { AreHostsInRange hosts.now }
     ensures { OnOk result (nodes.new ≡ nodes.old ++ map (host_meant hosted) hosts.now) }
 {
     for text in hosts {
@@ -64,6 +70,7 @@ fn add_spares(
     spares: &Option<HostTexts>,
     hosted: Option<u16>,
 ) -> Result<(), NoMemory>
+    requires { AreHostsInRange (unwrap_or spares.now []) }
     ensures { OnOk result
         (nodes.new ≡ nodes.old ++ map (host_meant hosted) (unwrap_or spares.now [])) }
 {
@@ -75,7 +82,9 @@ fn add_spares(
 
 // The nodes of a troupe.
 fn add_troupe(nodes: &mut Hosts, modules: &Names, troupe: &TroupeText) -> Result<(), NoMemory>
-    ensures { OnOk result (nodes.new ≡ nodes.old ++ hosts_meant (known_of modules.now) troupe.now) }
+    requires { IsTroupeInRange troupe.now }
+    ensures { OnOk result
+        (nodes.new ≡ nodes.old ++ hosts_meant (as_words (known_of modules.now)) troupe.now) }
 {
     let hosted = module_of_troupe(modules, troupe);
     add_hosts(nodes, troupe.members.as_slice(), hosted)?;
@@ -84,8 +93,10 @@ fn add_troupe(nodes: &mut Hosts, modules: &Names, troupe: &TroupeText) -> Result
 }
 
 fn add_troupes(nodes: &mut Hosts, modules: &Names, troupes: &[TroupeText]) -> Result<(), NoMemory>
+    requires { AllByRecursion IsTroupeInRange troupes.now }
     ensures { OnOk result
-        (nodes.new ≡ nodes.old ++ flat_map (hosts_meant (known_of modules.now)) troupes.now) }
+        (nodes.new
+        ≡ nodes.old ++ flat_map (hosts_meant (as_words (known_of modules.now))) troupes.now) }
 {
     for troupe in troupes {
         add_troupe(nodes, modules, troupe)?;
@@ -95,7 +106,8 @@ fn add_troupes(nodes: &mut Hosts, modules: &Names, troupes: &[TroupeText]) -> Re
 
 /// The nodes, in the order of the text.
 pub fn nodes(alloc: Global, modules: &Names, text: &DeploymentText) -> Result<Hosts, NoMemory>
-    ensures { IfOk result (λ nodes. nodes ≡ nodes_meant (known_of modules.now) text.now) }
+    requires { IsInRange text.now }
+    ensures { IfOk result (λ nodes. nodes ≡ nodes_meant (as_words (known_of modules.now)) text.now) }
 {
     let mut nodes = Hosts::new(alloc);
     nodes.push(host(&text.ringmaster.name, text.ringmaster.port, None)?)?;
@@ -150,7 +162,8 @@ fn numbers_from(alloc: Global, first: u16, count: usize) -> Result<Nodes, NoMemo
 }
 
 fn troupe(alloc: Global, text: &ModuleText, found: &NumberedTroupe) -> Result<Troupe, NoMemory>
-    requires { found.now.first + length (hosts_of found.now.troupe.now) ≤ most_nodes }
+    requires few { found.now.first + length (hosts_of found.now.troupe.now) ≤ most_nodes }
+    requires in_range { IsTroupeInRange found.now.troupe.now }
     ensures { IfOk result (λ made.
         made ≡ troupe_meant (module_of text.now) (numbered_as found.now)) }
 {
@@ -171,12 +184,15 @@ fn troupe_at<'n, 't>(
     numbered: &'n [NumberedTroupe<'t>],
     text: &ModuleText,
 ) -> Option<&'n NumberedTroupe<'t>>
-    requires { AllByRecursion (λ (n : NumberedTroupe).
+    requires few { AllByRecursion (λ (n : NumberedTroupe).
         n.first + length (hosts_of n.troupe.now) ≤ most_nodes) numbered.now }
+    requires in_range { AllByRecursion (λ (n : NumberedTroupe).
+        IsTroupeInRange n.troupe.now) numbered.now }
     ensures found { option_map numbered_as (option_copied result)
         ≡ troupe_at (map numbered_as numbered.now) (known_of numbers.now text.now.name.name) }
     ensures few { IfSome result (λ n.
         n.now.first + length (hosts_of n.now.troupe.now) ≤ most_nodes) }
+    ensures in_range { IfSome result (λ n. IsTroupeInRange n.now.troupe.now) }
 {
     match numbers.get(text.name.name.as_slice()) {
         Some(number) => numbered.get(number),
@@ -191,8 +207,10 @@ pub fn troupes(
     numbers: &Names,
     numbered: &[NumberedTroupe],
 ) -> Result<Troupes, NoMemory>
-    requires { AllByRecursion (λ (n : NumberedTroupe).
+    requires few { AllByRecursion (λ (n : NumberedTroupe).
         n.first + length (hosts_of n.troupe.now) ≤ most_nodes) numbered.now }
+    requires in_range { AllByRecursion (λ (n : NumberedTroupe).
+        IsTroupeInRange n.troupe.now) numbered.now }
     ensures { IfOk result (λ made.
         made ≡ troupes_meant (map numbered_as numbered.now) (known_of numbers.now)
         (map module_of modules.now)) }

@@ -5,7 +5,7 @@ ghost use Rattle.circus_fault.specs.Least.{least_from};
 ghost use Rattle.circus_deployment.specs.Rank.{rank_of};
 ghost use Rattle.circus_deployment.specs.Nodes.{hosts_of, nodes_of};
 ghost use Rattle.circus_deployment.specs.Faults.{no_nodes, node_faults, behind_node, nodes_faults, behind_nodes};
-ghost use Rattle.circus_deployment.specs.Seen.{before_of};
+ghost use Rattle.circus_deployment.specs.Seen.{before_of, as_counted};
 
 use crate::cause::Cause;
 use circus_fault::{Best, Names, NumberSet};
@@ -46,7 +46,7 @@ impl<'a> SeenNodes<'a> {
             (best.new.fault ≡ least_from rank_of best.old.fault
             (node_faults (before_of self.old) name.now port)) }
         ensures behind { OnOk result
-            (before_of self.new ≡ behind_node (before_of self.old) name.now port) }
+            (before_of self.new ≡ as_counted (behind_node (before_of self.old) name.now port)) }
     {
         let earlier = self.names.insert(name.name.as_slice(), 0)?;
         let is_new = self.ports.insert(port.value)?;
@@ -63,7 +63,8 @@ impl<'a> SeenNodes<'a> {
             (best.new.fault ≡ least_from rank_of best.old.fault
             (nodes_faults (before_of self.old) hosts.now)) }
         ensures behind { OnOk result
-            (before_of self.new ≡ behind_nodes (before_of self.old) hosts.now) }
+            (as_counted (before_of self.new)
+            ≡ as_counted (behind_nodes (before_of self.old) hosts.now)) }
     {
         for host in hosts {
             self.node(best, &host.name, host.port)?;
@@ -81,7 +82,8 @@ impl<'a> SeenNodes<'a> {
             (best.new.fault ≡ least_from rank_of best.old.fault
             (nodes_faults (before_of self.old) (unwrap_or spares.now []))) }
         ensures behind { OnOk result
-            (before_of self.new ≡ behind_nodes (before_of self.old) (unwrap_or spares.now [])) }
+            (as_counted (before_of self.new)
+            ≡ as_counted (behind_nodes (before_of self.old) (unwrap_or spares.now []))) }
     {
         match spares {
             Some(hosts) => self.nodes(best, hosts.as_slice()),
@@ -95,7 +97,8 @@ impl<'a> SeenNodes<'a> {
             (best.new.fault ≡ least_from rank_of best.old.fault
             (nodes_faults (before_of self.old) (hosts_of troupe.now))) }
         ensures behind { OnOk result
-            (before_of self.new ≡ behind_nodes (before_of self.old) (hosts_of troupe.now)) }
+            (as_counted (before_of self.new)
+            ≡ as_counted (behind_nodes (before_of self.old) (hosts_of troupe.now))) }
     {
         self.nodes(best, troupe.members.as_slice())?;
         self.spares(best, &troupe.spares)?;

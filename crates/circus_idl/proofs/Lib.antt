@@ -5,6 +5,7 @@ mod FirstPlace
 mod TypesPut
 mod ScopeMore
 mod DraftMore
+mod DeclaredInRange
 mod CutOff
 mod WholeObeys
 pub mod Obeying

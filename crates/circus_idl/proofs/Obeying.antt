@@ -1,5 +1,5 @@
 -- An interface whose tree has no fault obeys the rules.
-use Rattle.std.proofs.Common.{◌≡◌, ℕ, ◌+◌, ◌≤◌, Bool, true, false, cond, List, [], ◌∷◌, ◌++◌, map, refl, sym, ap, subst, arith, append_assoc, Option, Some, None, min, unwrap_or, is_none, bytes_eq}
+use Rattle.std.proofs.Common.{◌≡◌, ℕ, ◌+◌, ◌≤◌, Bool, true, false, cond, List, [], ◌∷◌, ◌++◌, map, refl, sym, ap, subst, arith, append_assoc, Option, Some, None, unwrap_or, is_none, bytes_eq}
 use Rattle.std.specs.Prelude.{Contains, ◌||◌}
 use Rattle.std.specs.List.{AllByRecursion, flat_map}
 use Rattle.std.proofs.lemmas.List.Sums.{sum_by-append, sum_by-cons}
@@ -21,7 +21,6 @@ use Rattle.circus_idl.specs.declared.interface.Procedure.{Procedure}
 use Rattle.circus_idl.specs.declared.interface.Interface.{Interface}
 use Rattle.circus_type.specs.Written.{parts}
 use Rattle.circus_type.specs.Scale.{written_out}
-use Rattle.circus_type.specs.Meaning.{word_of}
 use Rattle.circus_idl.specs.Meaning.{shape_of_type}
 use Rattle.circus_idl.specs.OfTypes.{of_type}
 use Rattle.circus_idl.specs.Means.{NamedShape, named_shape, Meant, and_then, fields_meant, numbers_meant, reports_meant, declared_meant, errors_behind, declarations_meant, meant_of, Means}
@@ -35,7 +34,7 @@ use Rattle.circus_type.specs.Obeys.{ObeysInside, ObeysWhole}
 use Rattle.circus_idl.specs.Obeys.{ObeysError, ObeysProcedure, Obeys}
 use Rattle.circus_type.proofs.Items.{all_appended, all_with, distinct_with}
 use Rattle.circus_fault.proofs.NoFaults.{no_fault}
-use Rattle.circus_type.proofs.NoFaults.{names_apart, numbers_apart, within, word_is}
+use Rattle.circus_type.proofs.NoFaults.{names_apart, numbers_apart, within}
 use Rattle.circus_idl.proofs.WholeObeys.{uncut, AreWhole, whole_obeys, fields_whole, together_small}
 
 -- names that stand before nothing yet, and no two of which are equal
@@ -99,7 +98,7 @@ record Follows (all : List DeclaredError) (before : Before ShapeTree) (m : Meant
 -- what is known of the names that are declared before, where these are all errors
 record Linked (all : List DeclaredError) (before : Before ShapeTree) : Type 0 where
   known : (n : List ℕ) → before.types n ≡ true → ObeysInside (before.sizes n)
-  reported : (n : List ℕ) (k : ℕ) → before.errors n ≡ Some k → Contains (error_numbers all) (min k 65535)
+  reported : (n : List ℕ) (k : ℕ) → before.errors n ≡ Some k → Contains (error_numbers all) k
   few : before.parts ≤ 16384
 
 -- these are errors of the interface
@@ -150,15 +149,15 @@ module _ (all : List DeclaredError) (before : Before ShapeTree) (linked : Linked
       let (names, whole) = fields_whole before.types before.sizes linked.known before.parts e.arguments linked.few good.1 fields in
       (name, names, whole, no_fault _ _ _ number, within of_type 59999 e.number high)
 
-  error_linked : (e : ErrorText) → Contains (error_numbers all) (word_of e.number) → fields_parts written_out before.sizes before.parts e.arguments ≤ 16384 → Linked all (behind written_out before (an_error e))
+  error_linked : (e : ErrorText) → Contains (error_numbers all) e.number.value → fields_parts written_out before.sizes before.parts e.arguments ≤ 16384 → Linked all (behind written_out before (an_error e))
   error_linked e there few = record {
     known = linked.known;
     reported = λ n k. reported n k (bytes_eq e.name.name n);
     few = few;
   }
     where
-      reported : (n : List ℕ) (k : ℕ) (b : Bool) → cond b (Some e.number.value) (before.errors n) ≡ Some k → Contains (error_numbers all) (min k 65535)
-      reported n k true is = let same : e.number.value ≡ k = cc in subst (λ v. Contains (error_numbers all) (min v 65535)) same there
+      reported : (n : List ℕ) (k : ℕ) (b : Bool) → cond b (Some e.number.value) (before.errors n) ≡ Some k → Contains (error_numbers all) k
+      reported n k true is = let same : e.number.value ≡ k = cc in subst (Contains (error_numbers all)) same there
       reported n k false is = linked.reported n k is
 
   error_follows : (e : ErrorText) (m : Meant) → IsDeclared (an_error e) → declared_faults written_out uncut before (an_error e) ≡ [] → Follows all (behind written_out before (an_error e)) m → Follows all before (and_then (declared_meant before.sizes before.errors (an_error e)) m)
@@ -174,17 +173,15 @@ module _ (all : List DeclaredError) (before : Before ShapeTree) (linked : Linked
         error_types = all_appended ObeysWhole own (error_shapes m) whole.types rest.error_types;
         procedure_types = rest.procedure_types;
         few = omega (arith, rest.few, whole.counted_is, sum_by-append parts own (error_shapes m));
-        errors = (record { in_range = omega (arith, small); arguments = names }, rest.errors);
-        error_numbers =
-            subst (λ v. AreNewNumbers before.error_numbers (v ∷ error_numbers m.errors)) (sym (word_is e.number (omega (arith, small))))
-            (one_more_number before.error_numbers e.number.value (error_numbers m.errors) number rest.error_numbers);
+        errors = (record { in_range = small; arguments = names }, rest.errors);
+        error_numbers = one_more_number before.error_numbers e.number.value (error_numbers m.errors) number rest.error_numbers;
         procedures = rest.procedures;
         procedure_numbers = rest.procedure_numbers;
       }
 
   -- A procedure.
 
-  reported_number : (o : Option ℕ) → is_none o ≡ false → ((k : ℕ) → o ≡ Some k → Contains (error_numbers all) (min k 65535)) → Contains (error_numbers all) (min (unwrap_or o 0) 65535)
+  reported_number : (o : Option ℕ) → is_none o ≡ false → ((k : ℕ) → o ≡ Some k → Contains (error_numbers all) k) → Contains (error_numbers all) (unwrap_or o 0)
   reported_number None some there = absurd (cc)
   reported_number (Some k) some there = there k refl
 
@@ -256,12 +253,10 @@ module _ (all : List DeclaredError) (before : Before ShapeTree) (linked : Linked
         errors = rest.errors;
         error_numbers = rest.error_numbers;
         procedures = (
-          record { in_range = omega (arith, clean.in_range); arguments = clean.arguments; results = clean.results; small = clean.small; reports = clean.reports },
+          record { in_range = clean.in_range; arguments = clean.arguments; results = clean.results; small = clean.small; reports = clean.reports },
           rest.procedures,
         );
-        procedure_numbers =
-            subst (λ v. AreNewNumbers before.procedure_numbers (v ∷ map (λ (q : Procedure). q.number) m.procedures)) (sym (word_is p.number clean.in_range))
-            (one_more_number before.procedure_numbers p.number.value (map (λ (q : Procedure). q.number) m.procedures) clean.number rest.procedure_numbers);
+        procedure_numbers = one_more_number before.procedure_numbers p.number.value (map (λ (q : Procedure). q.number) m.procedures) clean.number rest.procedure_numbers;
       }
 
 -- Declarations one behind the other.
@@ -291,8 +286,8 @@ follow all before (an_error e ∷ ds) linked good clean declares =
     let others = (declarations_meant before.sizes (errors_behind before.errors (an_error e)) ds).errors in
     error_follows all before linked e _ good.0 own
     (follow all (behind written_out before (an_error e)) ds
-    (error_linked all before linked e (declares (word_of e.number) (contains_first (word_of e.number) (error_numbers others))) fields.2.few)
-    good.1 rest (λ k there. declares k (contains_later (word_of e.number) (error_numbers others) k there)))
+    (error_linked all before linked e (declares e.number.value (contains_first e.number.value (error_numbers others))) fields.2.few)
+    good.1 rest (λ k there. declares k (contains_later e.number.value (error_numbers others) k there)))
 follow all before (a_procedure p ∷ ds) linked good clean declares =
     let (own, rest) = none_in (declared_faults written_out uncut before (a_procedure p)) (declarations_faults written_out uncut (behind written_out before (a_procedure p)) ds) clean in
     let is = procedure_clean all before linked p good.0 own in
@@ -314,6 +309,7 @@ unfolding Declares
 meant_obeys tree i good clean means =
     let meant = declarations_meant (λ _. boolean) (λ _. None) tree.declared in
     let (numbers, rest) = none_in (above 4294967295 tree.number ++ above 65535 tree.version) (declarations_faults written_out uncut (nothing written_out) tree.declared) clean in
+    let (program, version) = none_in (above 4294967295 tree.number) (above 65535 tree.version) numbers in
     let linked : Linked meant.errors (nothing written_out) = record { known = λ n is. absurd (cc); reported = λ n k is. absurd (cc); few = omega arith } in
     let follows : Follows i.errors (nothing written_out) (meant_of i) =
     subst (λ (m : Meant). Follows m.errors (nothing written_out) m) (sym means.declared) (follow meant.errors (nothing written_out) tree.declared linked good.3 rest (λ k there. there)) in
@@ -322,8 +318,8 @@ meant_obeys tree i good clean means =
     let types : AllByRecursion ObeysWhole (map (λ (t : DeclaredType). tree_of t.shape) i.types) = subst (AllByRecursion ObeysWhole) shapes follows.types in
     record {
       named = subst rule.IsName (sym means.name) good.0;
-      number = omega (arith, means.number);
-      version = omega (arith, means.version);
+      number = subst (λ n. n ≤ 4294967295) (sym means.number) (within of_type 4294967295 tree.number program);
+      version = subst (λ n. n ≤ 65535) (sym means.version) (within of_type 65535 tree.version version);
       declared_named = subst (AllByRecursion rule.IsName) names follows.names.named;
       names = subst AreDistinct names follows.names.distinct;
       types = all_appended ObeysWhole _ _ (all_appended ObeysWhole _ _ types follows.error_types) follows.procedure_types;

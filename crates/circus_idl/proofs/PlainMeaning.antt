@@ -1,5 +1,5 @@
 -- The tree of an interface that obeys the rules means it, and no other.
-use Rattle.std.proofs.Common.{◌≡◌, ℕ, ◌≤◌, List, [], ◌∷◌, ◌++◌, refl, sym, ◌∙◌, ap, ap₂, append-nil, arith, min, Option, None, unwrap_or}
+use Rattle.std.proofs.Common.{◌≡◌, ℕ, List, [], ◌∷◌, ◌++◌, refl, sym, ◌∙◌, ap, ap₂, append-nil, Option, None, unwrap_or}
 use Rattle.std.specs.Prelude.{map}
 use Rattle.std.specs.List.{AllByRecursion}
 use Rattle.circus_value.specs.ShapeTree.{ShapeTree, FieldTree, field_trees, boolean}
@@ -15,7 +15,7 @@ use Rattle.circus_type.specs.Distinct.{AreDistinct}
 use Rattle.circus_idl.specs.Obeys.{Obeys}
 use Rattle.circus_idl.proofs.Places.{next}
 use Rattle.circus_idl.proofs.PlainTypes.{groups_at}
-use Rattle.circus_idl.proofs.PlainWritten.{word_meant, type_written, groups_written}
+use Rattle.circus_idl.proofs.PlainWritten.{type_written, groups_written}
 use Rattle.circus_value.specs.ShapeOf.{fields_in, shape_in}
 use Rattle.circus_value.proofs.ShapeBack.{fields_back, shape_back}
 use Rattle.circus_idl.proofs.ObeysParts.{error_names, errors_distinct, TypeObeys, FieldsObey, ErrorObeys, ProcedureObeys, PartsObey, fields_obey}
@@ -33,7 +33,7 @@ fields_mean form (f ∷ fs) ps obey = ap (written_groups form) (group_list_is (f
 names_mean : (errors : List DeclaredError) (ns ps : List ℕ) → AllByRecursion (IsReported errors) ns → numbers_meant (errors_after (λ _. None) errors) (names_at errors ns ps) ≡ ns
 names_mean errors [] ps reported = refl
 names_mean errors (n ∷ ns) ps reported =
-    ap₂ (λ m ms. m ∷ ms) (ap (λ o. min (unwrap_or o 0) 65535) reported.0.found ∙ word_meant n reported.0.in_range) (names_mean errors ns _ reported.1)
+    ap₂ (λ m ms. m ∷ ms) (ap (λ o. unwrap_or o 0) reported.0.found) (names_mean errors ns _ reported.1)
 
 reports_mean : (errors : List DeclaredError) (ns ps : List ℕ) → AllByRecursion (IsReported errors) ns → reports_meant (errors_after (λ _. None) errors) (reports_at errors ns ps) ≡ ns
 reports_mean errors [] ps reported = refl
@@ -52,14 +52,13 @@ errors_mean : (es : List DeclaredError) (ps : List ℕ) (form : List ℕ → Sha
     → declarations_meant form errors (errors_at es ps ++ rest) ≡ and_then (record { types = []; errors = es; procedures = [] }) m
 errors_mean [] ps form errors rest m obey then = then
 errors_mean (e ∷ es) ps form errors rest m obey then =
-    let in_range : e.number ≤ 59999 = obey.0.in_range in
     ap₂ (λ d others. and_then (record { types = []; errors = d ∷ []; procedures = [] }) others)
-    (ap₂ (λ n fs. record { name = e.name; number = n; arguments = fs }) (word_meant e.number (omega arith)) (fields_mean form e.arguments (behind_head ps) obey.0.arguments))
+    (ap (λ fs. record { name = e.name; number = e.number; arguments = fs }) (fields_mean form e.arguments (behind_head ps) obey.0.arguments))
     (errors_mean es _ form _ rest m obey.1 then)
 
-procedure_is : (p : Procedure) (n : ℕ) (arguments results : List FieldTree) (reports : List ℕ) → n ≡ p.number → arguments ≡ p.arguments → results ≡ p.results → reports ≡ p.reports
-    → ◌≡◌ {A = Procedure} (record { name = p.name; number = n; arguments = arguments; results = results; reports = reports }) p
-procedure_is p n arguments results reports number a r e = λ i. record { name = p.name; number = number i; arguments = a i; results = r i; reports = e i }
+procedure_is : (p : Procedure) (arguments results : List FieldTree) (reports : List ℕ) → arguments ≡ p.arguments → results ≡ p.results → reports ≡ p.reports
+    → ◌≡◌ {A = Procedure} (record { name = p.name; number = p.number; arguments = arguments; results = results; reports = reports }) p
+procedure_is p arguments results reports a r e = λ i. record { name = p.name; number = p.number; arguments = a i; results = r i; reports = e i }
 
 procedures_mean : (errors : List DeclaredError) (pr : List Procedure) (ps : List ℕ) (form : List ℕ → ShapeTree)
     → AllByRecursion ErrorObeys errors → AreDistinct (error_names errors) → AllByRecursion (ProcedureObeys errors) pr
@@ -67,7 +66,7 @@ procedures_mean : (errors : List DeclaredError) (pr : List Procedure) (ps : List
 procedures_mean errors [] ps form are distinct obey = refl
 procedures_mean errors (p ∷ pr) ps form are distinct obey =
     ap₂ (λ q others. and_then (record { types = []; errors = []; procedures = q ∷ [] }) others)
-    (procedure_is p _ _ _ _ (word_meant p.number obey.0.in_range) (fields_mean form p.arguments (behind_head ps) obey.0.arguments)
+    (procedure_is p _ _ _ (fields_mean form p.arguments (behind_head ps) obey.0.arguments)
     (fields_mean form p.results (next (behind_arguments p ps)) obey.0.results)
     (reports_mean errors p.reports (behind_results p ps) (are_reported errors p.reports are distinct obey.0.reports)))
     (procedures_mean errors pr _ form are distinct obey.1)
@@ -82,8 +81,8 @@ declared_means i ps obey distinct =
 pub interface_means : (i : Interface) (ps : List ℕ) → Obeys i → PartsObey i → Means (interface_at i ps) i
 interface_means i ps obeys obey = record {
   name = refl;
-  number = let fits = obeys.number in omega arith;
-  version = let fits = obeys.version in omega arith;
+  number = refl;
+  version = refl;
   declared = sym (declared_means i (at_declared ps) obey (errors_distinct i obeys.names));
 }
 

@@ -4,6 +4,7 @@ pub mod Obeys
 pub mod OfTypes
 pub mod Inside
 pub mod Meaning
+pub mod InRange
 pub mod Means
 pub mod Rank
 pub mod Faults

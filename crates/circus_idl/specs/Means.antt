@@ -1,5 +1,5 @@
 -- What an interface means, declaration by declaration.
-use Rattle.std.specs.Prelude.{◌≡◌, ℕ, min, List, [], ◌∷◌, ◌++◌, map, Option, Some, None, unwrap_or}
+use Rattle.std.specs.Prelude.{◌≡◌, ℕ, List, [], ◌∷◌, ◌++◌, map, Option, Some, None, unwrap_or}
 use Rattle.circus_value.specs.ShapeTree.{ShapeTree, FieldTree, boolean}
 use Rattle.circus_value.specs.ShapeOf as shapes
 use Rattle.circus_syntax.specs.declared.named.Named.{Named}
@@ -12,9 +12,6 @@ use Rattle.circus_idl.specs.declared.interface.DeclaredType.{DeclaredType}
 use Rattle.circus_idl.specs.declared.interface.DeclaredError.{DeclaredError}
 use Rattle.circus_idl.specs.declared.interface.Procedure.{Procedure}
 use Rattle.circus_idl.specs.declared.interface.Interface.{Interface}
-use Rattle.circus_type.specs.Limits.{greatest_word}
-use Rattle.circus_idl.specs.Limits.{greatest_program}
-use Rattle.circus_type.specs.Meaning.{word_of}
 use Rattle.circus_idl.specs.Meaning.{shape_of_type, written_groups, standing_for}
 
 -- a declared type, its shape as a tree
@@ -45,19 +42,19 @@ fields_meant form (Some f) = written_groups form (group_trees f.groups)
 
 -- the numbers of the errors of these names
 abbrev pub numbers_meant : (List ℕ → Option ℕ) → List Named → List ℕ
-numbers_meant errors names = map (λ (n : Named). min (unwrap_or (errors n.name) 0) greatest_word) names
+numbers_meant errors names = map (λ (n : Named). unwrap_or (errors n.name) 0) names
 
 abbrev pub reports_meant : (List ℕ → Option ℕ) → Option (List Named) → List ℕ
 reports_meant errors None = []
 reports_meant errors (Some names) = numbers_meant errors names
 
 abbrev pub error_meant : (List ℕ → ShapeTree) → ErrorText → DeclaredError
-error_meant form e = record { name = e.name.name; number = word_of e.number; arguments = fields_meant form e.arguments }
+error_meant form e = record { name = e.name.name; number = e.number.value; arguments = fields_meant form e.arguments }
 
 abbrev pub procedure_meant : (List ℕ → ShapeTree) → (List ℕ → Option ℕ) → ProcedureText → Procedure
 procedure_meant form errors p = record {
   name = p.name.name;
-  number = word_of p.number;
+  number = p.number.value;
   arguments = fields_meant form p.arguments;
   results = fields_meant form p.results;
   reports = reports_meant errors p.reports;
@@ -93,6 +90,6 @@ meant_of i = record { types = map named_shape i.types; errors = i.errors; proced
 -- the interface that a tree means: its name and numbers, and what is declared in it
 pub record Means (tree : InterfaceTree) (i : Interface) : Type 0 where
   pub name : i.name ≡ tree.name.name
-  pub number : i.number ≡ min tree.number.value greatest_program
-  pub version : i.version ≡ word_of tree.version
+  pub number : i.number ≡ tree.number.value
+  pub version : i.version ≡ tree.version.value
   pub declared : meant_of i ≡ declarations_meant (λ _. boolean) (λ _. None) tree.declared

@@ -1,5 +1,5 @@
 // The interface that a tree means, or the least of its faults.
-ghost use Rattle.std.specs.Prelude.{◌≡◌, ◌⊎◌, min, List, [], map, None, Some, OnOk, IfOk, IfErr, IfNone};
+ghost use Rattle.std.specs.Prelude.{◌≡◌, ◌⊎◌, ◌≤◌, List, [], map, None, Some, OnOk, IfOk, IfErr, IfNone};
 ghost use Rattle.circus_value.specs.ShapeTree.{boolean};
 ghost use Rattle.circus_syntax.specs.InterfaceTree.{declared_of, interface_of};
 ghost use Rattle.circus_fault.specs.declared.fault.Fault.{Fault};
@@ -12,13 +12,14 @@ ghost use Rattle.circus_idl.specs.Rank.{rank_of};
 ghost use Rattle.circus_idl.specs.declared.idl_fault.IdlFault.{IdlFault};
 ghost use Rattle.circus_idl.specs.Limits.{greatest_program};
 ghost use Rattle.circus_idl.specs.Seen.Known.{type_form};
+ghost use Rattle.circus_type.specs.InRange.{IsOneWord};
 ghost use Rattle.circus_type.specs.Seen.Measured.{cut_off};
+ghost use Rattle.circus_idl.specs.InRange.{AreWords};
 ghost use Rattle.circus_idl.specs.Seen.Scoped.{before_of, cut_in};
 ghost use Rattle.circus_idl.specs.Seen.Drafted.{draft_meaning};
 ghost use Rattle.circus_idl.specs.Answer.{answer_of};
 ghost use Rattle.circus_idl.specs.Faults.{nothing, cut_of, declarations_faults, read_faults};
 ghost use Rattle.circus_idl.specs.Means.{Means, meant_of, and_then, nothing_meant, declarations_meant};
-ghost use Rattle.circus_type.specs.Meaning.{word_of};
 
 use crate::draft::Draft;
 use crate::fault::Cause;
@@ -72,6 +73,7 @@ fn start<'a>(alloc: Global, stop: &Option<Stop>) -> Draft<'a>
     ensures before { before_of result.scope ≡ nothing cut_off }
     ensures formed { type_form result.scope.types ≡ (λ _. boolean) }
     ensures drafted { draft_meaning result ≡ nothing_meant }
+    ensures errors { AreWords (known_of result.scope.errors) }
 {
     let scope = Scope {
         alloc,
@@ -94,6 +96,8 @@ fn start<'a>(alloc: Global, stop: &Option<Stop>) -> Draft<'a>
 }
 
 fn declare_all<'a>(draft: &mut Draft<'a>, declared: &'a [DeclaredText]) -> Result<(), NoMemory>
+    requires errors { IfNone draft.old.scope.best.fault
+        (AreWords (known_of draft.old.scope.errors)) }
     ensures found { OnOk result
         (draft.new.scope.best.fault
         ≡ least_from rank_of draft.old.scope.best.fault
@@ -139,14 +143,16 @@ pub fn check(
 
 // The interface of a draft, with its name and its numbers.
 fn interface_of_draft(tree: &InterfaceText, draft: Draft) -> Result<Interface, NoMemory>
+    requires number { tree.now.number.value ≤ greatest_program }
+    requires version { IsOneWord tree.now.version }
     ensures declared { IfOk result (λ i. meant_of i ≡ draft_meaning draft.entry) }
     ensures name { IfOk result (λ i. i.name ≡ tree.now.name.name) }
-    ensures number { IfOk result (λ i. i.number ≡ min tree.now.number.value greatest_program) }
-    ensures version { IfOk result (λ i. i.version ≡ word_of tree.now.version) }
+    ensures number { IfOk result (λ i. i.number ≡ tree.now.number.value) }
+    ensures version { IfOk result (λ i. i.version ≡ tree.now.version.value) }
 {
     Ok(Interface {
         name: tree.name.name.copy()?,
-        number: tree.number.value.min(GREATEST_PROGRAM) as u32,
+        number: tree.number.value as u32,
         version: word(tree.version),
         types: draft.types,
         errors: draft.errors,

@@ -7,6 +7,7 @@ ghost use Rattle.circus_idl.specs.Rank.{rank_of};
 ghost use Rattle.circus_idl.specs.Seen.Scoped.{before_of, cut_in};
 ghost use Rattle.circus_idl.specs.Faults.{declared_faults, behind};
 ghost use Rattle.circus_idl.specs.Seen.Known.{type_form, tree_or};
+ghost use Rattle.circus_type.specs.InRange.{IsInRange};
 ghost use Rattle.circus_type.specs.Seen.Measured.{cut_off};
 ghost use Rattle.circus_idl.specs.Meaning.{shape_of_type, standing_for};
 
@@ -92,6 +93,7 @@ impl<'a> Scope<'a> {
 
     // What a type means, while no fault is found.
     fn shape_meant(&self, shape: &TypeText) -> Result<Option<Shape>, NoMemory>
+        requires { IfNone self.now.best.fault (IsInRange (tree_of shape.now)) }
         ensures { IfOk result (λ meant.
             IfNone self.now.best.fault
             (tree_or meant ≡ shape_of_type (type_form self.now.types) (tree_of shape.now))) }

@@ -6,7 +6,9 @@ ghost use Rattle.circus_fault.specs.Least.{least_from};
 ghost use Rattle.circus_fault.specs.Seen.Tables.{known_of};
 ghost use Rattle.circus_idl.specs.Rank.{rank_of};
 ghost use Rattle.circus_idl.specs.Seen.Known.{type_form};
+ghost use Rattle.circus_type.specs.InRange.{IsOneWord};
 ghost use Rattle.circus_type.specs.Seen.Measured.{cut_off};
+ghost use Rattle.circus_idl.specs.InRange.{AreWords, AreFieldsInRange};
 ghost use Rattle.circus_idl.specs.Seen.Scoped.{before_of, cut_in};
 ghost use Rattle.circus_idl.specs.Faults.{declared_faults, behind};
 ghost use Rattle.circus_idl.specs.Seen.Drafted.{draft_meaning};
@@ -17,7 +19,7 @@ use crate::scope::Scope;
 use crate::types::Types;
 use circus_fault::Names;
 use circus_syntax::{DeclaredText, ErrorText, FieldsText, Named, Nameds, ProcedureText, TypeText};
-use circus_type::{GREATEST_WORD, word, written_groups};
+use circus_type::{word, written_groups};
 use circus_value::{Duplicate, Fields, NoMemory, Numbers};
 use std::alloc::Global;
 
@@ -36,6 +38,7 @@ fn fields_meant(
     types: &Types,
     fields: &Option<FieldsText>,
 ) -> Result<Fields, NoMemory>
+    requires { AreFieldsInRange fields.now }
     ensures { IfOk result (λ list. list ≡ fields_meant (type_form types.now) fields.now) }
 {
     match fields {
@@ -46,6 +49,7 @@ fn fields_meant(
 
 // The numbers of the errors of these names.
 fn reports_meant(alloc: Global, errors: &Names, names: &Option<Nameds>) -> Result<Numbers, NoMemory>
+    requires { AreWords (known_of errors.now) }
     ensures { IfOk result (λ numbers. numbers ≡ reports_meant (known_of errors.now) names.now) }
 {
     match names {
@@ -55,12 +59,13 @@ fn reports_meant(alloc: Global, errors: &Names, names: &Option<Nameds>) -> Resul
 }
 
 fn numbers_meant(alloc: Global, errors: &Names, names: &[Named]) -> Result<Numbers, NoMemory>
+    requires { AreWords (known_of errors.now) }
     ensures { IfOk result (λ numbers. numbers ≡ numbers_meant (known_of errors.now) names.now) }
 {
     let mut numbers = Numbers::new(alloc);
     for name in names {
         let number = errors.get(name.name.as_slice()).unwrap_or(0);
-        numbers.push(number.min(GREATEST_WORD as usize) as u16)?;
+        numbers.push(number as u16)?;
     }
     Ok(numbers)
 }
@@ -129,6 +134,7 @@ impl<'a> Draft<'a> {
     }
 
     fn add_procedure(&mut self, procedure: &'a ProcedureText) -> Result<(), NoMemory>
+        requires { IfNone self.old.scope.best.fault (AreWords (known_of self.old.scope.errors)) }
         ensures found { OnOk result
             (self.new.scope.best.fault
             ≡ least_from rank_of self.old.scope.best.fault
@@ -157,6 +163,7 @@ impl<'a> Draft<'a> {
 
     /// One more declaration.
     pub fn add(&mut self, declared: &'a DeclaredText) -> Result<(), NoMemory>
+        requires { IfNone self.old.scope.best.fault (AreWords (known_of self.old.scope.errors)) }
         ensures found { OnOk result
             (self.new.scope.best.fault
             ≡ least_from rank_of self.old.scope.best.fault
@@ -186,6 +193,10 @@ impl<'a> Draft<'a> {
 }
 
 fn procedure_meant(scope: &Scope, procedure: &ProcedureText) -> Result<Procedure, NoMemory>
+    requires number { IsOneWord procedure.now.number }
+    requires arguments { AreFieldsInRange procedure.now.arguments }
+    requires results { AreFieldsInRange procedure.now.results }
+    requires errors { AreWords (known_of scope.now.errors) }
     ensures { IfOk result (λ meant.
         meant ≡ procedure_meant (type_form scope.now.types)
         (known_of scope.now.errors) procedure.now) }

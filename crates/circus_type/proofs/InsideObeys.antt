@@ -1,6 +1,6 @@
 -- A type without a fault inside means a shape in which no rule is broken.
 use Rattle.std.proofs.Common.{◌≡◌, ℕ, ◌<◌, ◌≤◌, ◌⊎◌, inl, inr, Bool, true, false, cond, List, [], ◌∷◌, ◌++◌, length, map, refl, sym, ◌∙◌, ap, subst, arith, Option, Some, None}
-use Rattle.std.specs.Prelude.{◌==◌, nat_lt, min}
+use Rattle.std.specs.Prelude.{◌==◌, nat_lt}
 use Rattle.std.specs.List.{AllByRecursion}
 use Rattle.std.proofs.lemmas.List.{map-append}
 use Rattle.std.proofs.lemmas.Bool.{or_parts}
@@ -21,7 +21,8 @@ use Rattle.circus_fault.proofs.Items.{none_in}
 use Rattle.circus_type.specs.declared.cause.TypeCause.{TypeCause}
 use Rattle.circus_type.specs.declared.cause.TypeCause.TheVariants.{OutOfRange}
 use Rattle.circus_type.specs.Inside.{no_name, repeated_names, labels_faults, group_names, arm_labels, is_bare, is_empty_record, length_faults, bound_faults, unknown_faults, inside, inside_groups, inside_arms}
-use Rattle.circus_type.specs.Meaning.{word_of, bound_of, label_meant, fields_named, shape_of_type, written_groups, written_arms}
+use Rattle.circus_type.specs.Meaning.{bound_of, label_meant, fields_named, shape_of_type, written_groups, written_arms}
+use Rattle.circus_type.specs.InRange.{IsBoundInRange}
 use Rattle.circus_type.specs.Distinct.{AreDistinct}
 use Rattle.circus_type.specs.Together.{names_of}
 use Rattle.circus_type.specs.Obeys as rule
@@ -29,6 +30,7 @@ use Rattle.circus_type.specs.Obeys.{ObeyLabels, field_names, arm_names, arm_numb
 use Rattle.circus_type.proofs.Items.{all_appended}
 use Rattle.circus_fault.proofs.NoFaults.{no_fault}
 use Rattle.circus_type.proofs.NoFaults.{distinct_names, labels_clean}
+use Rattle.circus_type.proofs.InsideInRange.{length_in_range, bound_in_range}
 
 pub each_named : (ns : List Named) → IsEach IsName ns → AllByRecursion rule.IsName (map (λ (n : Named). n.name) ns)
 each_named [] named = tt
@@ -63,15 +65,15 @@ module _ (form : TypeName → ShapeTree) where
 
   arm_numbers_are : (arms : ArmTrees) → map (λ (l : Label). l.number) (map label_meant (arm_labels arms)) ≡ arm_numbers (arm_trees (written_arms form arms))
   arm_numbers_are no_arms = refl
-  arm_numbers_are (more_arms name number t arms) = ap (λ ns. word_of number ∷ ns) (arm_numbers_are arms)
+  arm_numbers_are (more_arms name number t arms) = ap (λ ns. number.value ∷ ns) (arm_numbers_are arms)
 
   arms_named : (arms : ArmTrees) → AreArms arms → AllByRecursion rule.IsName (arm_names (arm_trees (written_arms form arms)))
   arms_named no_arms good = tt
   arms_named (more_arms name number t arms) good = (good.0, arms_named arms good.3)
 
-  arms_in_range : (arms : ArmTrees) → AllByRecursion (λ n. n ≤ 65535) (arm_numbers (arm_trees (written_arms form arms)))
-  arms_in_range no_arms = tt
-  arms_in_range (more_arms name number t arms) = (omega arith, arms_in_range arms)
+  arms_in_range : (arms : ArmTrees) → AllByRecursion (λ (l : Label). l.number ≤ 65535) (map label_meant (arm_labels arms)) → AllByRecursion (λ n. n ≤ 65535) (arm_numbers (arm_trees (written_arms form arms)))
+  arms_in_range no_arms small = tt
+  arms_in_range (more_arms name number t arms) small = (small.0, arms_in_range arms small.1)
 
   some_arms : (at : ℕ) (arms : ArmTrees) → IsType (choice at arms) → (0 < length (arm_names (arm_trees (written_arms form arms)))) × AreArms arms
   some_arms at no_arms good = absurd good
@@ -87,7 +89,7 @@ module _ (form : TypeName → ShapeTree) where
         named = arms_named arms each;
         distinct_names = subst AreDistinct (arm_names_are arms) labels.distinct_names;
         distinct_numbers = subst AreDistinct (arm_numbers_are arms) labels.distinct_numbers;
-        in_range = arms_in_range arms;
+        in_range = arms_in_range arms labels.in_range;
       }
 
 -- Fields.
@@ -126,17 +128,15 @@ module _ (form : TypeName → ShapeTree) where
 
 -- Numbers and names.
 
-in_length : {C : Type 0} (embed : TypeCause → C) (n : Numeral) → length_faults embed n ≡ [] → 1 ≤ word_of n
-in_length embed n clean =
-    let (some, few) = or_parts (n.value == 0) (nat_lt 65535 n.value) (no_fault _ _ _ clean) in
-    some_value n.value some
+in_length : {C : Type 0} (embed : TypeCause → C) (n : Numeral) → length_faults embed n ≡ [] → 1 ≤ n.value
+in_length embed n clean = some_value n.value (or_parts (n.value == 0) (nat_lt 65535 n.value) (no_fault _ _ _ clean)).0
   where
-    some_value : (v : ℕ) → (v == 0) ≡ false → 1 ≤ min v 65535
+    some_value : (v : ℕ) → (v == 0) ≡ false → 1 ≤ v
     some_value v some = grind (arith, common_steps)
 
-bound_is_small : (bound : Option Numeral) → bound_of bound ≤ 65535
-bound_is_small None = omega arith
-bound_is_small (Some n) = omega arith
+bound_is_small : (bound : Option Numeral) → IsBoundInRange bound → bound_of bound ≤ 65535
+bound_is_small None small = omega arith
+bound_is_small (Some n) small = small
 
 known_name : {C : Type 0} (embed : TypeCause → C) (unknown : Option ℕ) → unknown_faults embed unknown ≡ [] → unknown ≡ None
 known_name embed None clean = refl
@@ -178,10 +178,10 @@ module _ {C : Type 0} (embed : TypeCause → C) (unknown : TypeName → Option �
     inside_obeys (enumeration at labels) good clean = labels_obey embed labels good clean
     inside_obeys (array at n t) good clean =
         let (own, rest) = none_in (length_faults embed n) (inside embed unknown t) clean in
-        (in_length embed n own, omega arith, inside_obeys t good.1 rest)
+        (in_length embed n own, length_in_range embed n own, inside_obeys t good.1 rest)
     inside_obeys (sequence at bound t) good clean =
         let (own, rest) = none_in (bound_faults embed bound) (inside embed unknown t) clean in
-        (bound_is_small bound, inside_obeys t good.1 rest)
+        (bound_is_small bound (bound_in_range embed bound own), inside_obeys t good.1 rest)
     inside_obeys («record» at groups) good clean =
         let (own, rest) = none_in (faults_if (is_bare groups) at (embed OutOfRange) ++ repeated_names embed no_name (group_names groups)) (inside_groups embed unknown groups) clean in
         let (some, names) = none_in (faults_if (is_bare groups) at (embed OutOfRange)) (repeated_names embed no_name (group_names groups)) own in (

@@ -4,5 +4,6 @@ pub mod Items
 pub mod LeastMore
 pub mod Sizes
 pub mod NoFaults
+pub mod InsideInRange
 pub mod InsideObeys
 pub mod WholeTypes

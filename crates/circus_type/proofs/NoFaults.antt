@@ -14,7 +14,7 @@ use Rattle.circus_fault.proofs.Items.{none_in}
 use Rattle.circus_fault.proofs.NoFaults.{no_fault}
 use Rattle.circus_type.specs.declared.cause.TypeCause.{TypeCause}
 use Rattle.circus_type.specs.Inside.{also_name, repeated_name, repeated_number, repeated_names, above, label_faults, labels_faults}
-use Rattle.circus_type.specs.Meaning.{word_of, label_meant}
+use Rattle.circus_type.specs.Meaning.{label_meant}
 use Rattle.circus_type.specs.Distinct.{AreDistinct}
 
 -- Of items none of which stands among those before them, where this one stands before them too.
@@ -38,9 +38,6 @@ names_apart earlier name others all = apart bytes_eq bytes_eq-refl earlier name 
 -- numbers none of which is this one
 pub numbers_apart : (earlier : ℕ → Bool) (number : ℕ) (others : List ℕ) → AllByRecursion (λ n. also_number number earlier n ≡ false) others → AllByRecursion (λ n. earlier n ≡ false) others × AllByRecursion (λ n. number ≢ n) others
 numbers_apart earlier number others all = apart (λ n m. n == m) (λ n. eq-eqb n n refl) earlier number others all
-
-pub word_is : (n : Numeral) → n.value ≤ 65535 → word_of n ≡ n.value
-word_is n small = omega arith
 
 -- labels without a fault
 pub record AreLabels (names : List ℕ → Bool) (numbers : ℕ → Bool) (labels : List Label) : Type 0 where
@@ -71,14 +68,13 @@ module _ {C : Type 0} (embed : TypeCause → C) where
       let (repeated, high) = none_in (repeated_name embed names l.name ++ repeated_number embed numbers l.number) (above embed 65535 l.number) own in
       let (name, number) = none_in (repeated_name embed names l.name) (repeated_number embed numbers l.number) repeated in
       let small = within 65535 l.number high in
-      let word = word_is l.number small in
       let others = labels_clean (also_name l.name.name names) (also_number l.number.value numbers) ls rest in
       let (fresh_names, other_names) = names_apart names l.name.name _ others.fresh_names in
       let (fresh_numbers, other_numbers) = numbers_apart numbers l.number.value _ others.fresh_numbers in
       record {
         fresh_names = (no_fault _ _ _ name, fresh_names);
         distinct_names = (other_names, others.distinct_names);
-        fresh_numbers = (ap numbers word ∙ no_fault _ _ _ number, fresh_numbers);
-        distinct_numbers = (subst (λ w. AllByRecursion (λ n. w ≢ n) (map (λ (l : Label). l.number) (map label_meant ls))) (sym word) other_numbers, others.distinct_numbers);
-        in_range = (omega (arith, small, word), others.in_range);
+        fresh_numbers = (no_fault _ _ _ number, fresh_numbers);
+        distinct_numbers = (other_numbers, others.distinct_numbers);
+        in_range = (small, others.in_range);
       }

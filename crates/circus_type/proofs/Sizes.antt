@@ -16,7 +16,7 @@ use Rattle.circus_syntax.specs.TypeTree as syntax
 use Rattle.circus_type.specs.declared.measuring.Measure.{Measure}
 use Rattle.circus_type.specs.Written.{parts, field_parts, arm_parts, levels, field_levels, arm_levels, zero_size, zero_value, zero_values, copies}
 use Rattle.circus_type.specs.Together.{shapes_of, zero_size_of}
-use Rattle.circus_type.specs.Meaning.{word_of, bound_of, label_meant, fields_named, shape_of_type, written_groups, written_arms}
+use Rattle.circus_type.specs.Meaning.{bound_of, label_meant, fields_named, shape_of_type, written_groups, written_arms}
 use Rattle.circus_type.specs.Seen.Measured.{measure, measure_of, fields_measure, arms_measure, items_measure, sequence_measure, group_measure, arm_measure, record_measure, choice_measure, measure_of_type, measured_groups, measured_arms}
 
 copies_size : (n : ℕ) (v : ValueTree) → external_sizes (copies n v) ≡ n * external_size v
@@ -121,7 +121,7 @@ mutual
   measured_is form (long_integer at) = refl
   measured_is form (text at) = refl
   measured_is form (enumeration at labels) = ap (λ n. measure (1 + n) 0 2) (sym (length-map labels label_meant))
-  measured_is form (array at n t) = ap (items_measure (word_of n)) (measured_is form t) ∙ items_are (word_of n) (shape_of_type form t)
+  measured_is form (array at n t) = ap (items_measure n.value) (measured_is form t) ∙ items_are n.value (shape_of_type form t)
   measured_is form (sequence at bound t) = ap sequence_measure (measured_is form t) ∙ sequence_is (bound_of bound) (shape_of_type form t)
   measured_is form («record» at groups) = ap record_measure (groups_measured form groups) ∙ record_is (field_trees (written_groups form groups))
   measured_is form (choice at arms) = ap choice_measure (arms_measured form arms) ∙ choice_is (arm_trees (written_arms form arms))
@@ -137,4 +137,4 @@ mutual
   arms_measured form syntax.no_arms = refl
   arms_measured form (syntax.more_arms name number t arms) =
       (λ i. arm_measure (measured_is form t i) (arms_measured form arms i))
-      ∙ arm_is name.name (word_of number) (shape_of_type form t) (arm_trees (written_arms form arms))
+      ∙ arm_is name.name number.value (shape_of_type form t) (arm_trees (written_arms form arms))

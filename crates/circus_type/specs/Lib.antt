@@ -2,6 +2,7 @@ pub mod Limits
 pub mod Distinct
 pub mod Inside
 pub mod Meaning
+pub mod InRange
 pub mod Written
 pub mod Together
 pub mod Scale

@@ -1,5 +1,5 @@
 -- What a type means: the shape in which every name is written out.
-use Rattle.std.specs.Prelude.{ℕ, min, List, [], ◌∷◌, ◌++◌, map, Option, Some, None}
+use Rattle.std.specs.Prelude.{ℕ, List, [], ◌∷◌, ◌++◌, map, Option, Some, None}
 use Rattle.circus_value.specs.declared.shape.Label.{Label}
 use Rattle.circus_value.specs.ShapeTree.{ShapeTree, FieldTree, ArmTree, field_trees, arm_trees}
 use Rattle.circus_value.specs.ShapeTree as shape
@@ -10,17 +10,13 @@ use Rattle.circus_syntax.specs.declared.named.LabelText.{LabelText}
 use Rattle.circus_syntax.specs.TypeTree.{TypeTree, GroupTrees, ArmTrees, boolean, cardinal, long_cardinal, integer, long_integer, text, enumeration, array, sequence, «record», choice, called, no_groups, more_groups, no_arms, more_arms}
 use Rattle.circus_type.specs.Limits.{greatest_word}
 
--- a number of one word; one that is out of range, which is a fault, counts as the greatest
-abbrev pub word_of : Numeral → ℕ
-word_of n = min n.value greatest_word
-
 -- the bound of a sequence, which is the greatest where none is given
 abbrev pub bound_of : Option Numeral → ℕ
 bound_of None = greatest_word
-bound_of (Some n) = word_of n
+bound_of (Some n) = n.value
 
 abbrev pub label_meant : LabelText → Label
-label_meant l = record { name = l.name.name; number = word_of l.number }
+label_meant l = record { name = l.name.name; number = l.number.value }
 
 -- a field of this shape for each of the names
 abbrev pub fields_named : List Named → ShapeTree → List FieldTree
@@ -36,7 +32,7 @@ abbrev mutual
   shape_of_type form (long_integer _) = shape.long_integer
   shape_of_type form (text _) = shape.text
   shape_of_type form (enumeration _ labels) = shape.enumeration (map label_meant labels)
-  shape_of_type form (array _ n t) = shape.array (word_of n) (shape_of_type form t)
+  shape_of_type form (array _ n t) = shape.array n.value (shape_of_type form t)
   shape_of_type form (sequence _ bound t) = shape.sequence (bound_of bound) (shape_of_type form t)
   shape_of_type form («record» _ groups) = shape.«record» (field_trees (written_groups form groups))
   shape_of_type form (choice _ arms) = shape.choice (arm_trees (written_arms form arms))
@@ -50,4 +46,4 @@ abbrev mutual
   pub written_arms : (TypeName → ShapeTree) → ArmTrees → List ArmTree
   written_arms form no_arms = []
   written_arms form (more_arms name number t arms) =
-      record { name = name.name; number = word_of number; shape = shape_of_type form t } ∷ written_arms form arms
+      record { name = name.name; number = number.value; shape = shape_of_type form t } ∷ written_arms form arms

@@ -4,12 +4,11 @@ ghost use Rattle.circus_value.specs.ShapeOf as shapes;
 ghost use Rattle.circus_value.specs.ShapeTree as shape;
 ghost use Rattle.circus_syntax.specs.TypeOf.{tree_of, group_of, arm_of};
 ghost use Rattle.circus_syntax.specs.TypeTree.{group_trees, arm_trees};
-ghost use Rattle.circus_type.specs.Meaning as meant;
 ghost use Rattle.circus_type.specs.Seen.Measured as size;
 
 use crate::TypeNames;
-use crate::limits::{GREATEST_WORD, MOST_PARTS, MOST_ZERO_BYTES};
-use circus_syntax::{ArmText, GroupText, MOST_LEVELS, Numeral, TypeKind, TypeText};
+use crate::limits::{MOST_PARTS, MOST_ZERO_BYTES};
+use circus_syntax::{ArmText, GroupText, MOST_LEVELS, TypeKind, TypeText};
 use circus_value::{Arm, Field, Shape};
 
 /// The size of a type, each number up to one above its limit.
@@ -54,13 +53,13 @@ impl Measure {
     }
 
     // So many items.
-    fn items(self, len: u16) -> Self
+    fn items(self, len: u64) -> Self
         ensures { result ≡ size.items_measure len self }
     {
         Measure::new(
             1 + self.parts(),
             1 + self.levels(),
-            u64::from(len) * self.zeros(),
+            len.saturating_mul(self.zeros()),
         )
     }
 
@@ -108,13 +107,6 @@ impl Measure {
     }
 }
 
-/// A number of one word, the greatest for one that is greater.
-pub fn word(number: Numeral) -> u16
-    ensures { result ≡ meant.word_of number }
-{
-    number.value.min(GREATEST_WORD) as u16
-}
-
 /// The size of a type.
 #[cycle(measured)]
 pub fn measure_of_type<N: TypeNames>(names: &N, shape: &TypeText) -> Measure
@@ -127,7 +119,7 @@ pub fn measure_of_type<N: TypeNames>(names: &N, shape: &TypeText) -> Measure
             0,
             2,
         ),
-        TypeKind::Array(len, element) => measure_of_type(names, element.shape()).items(word(*len)),
+        TypeKind::Array(len, element) => measure_of_type(names, element.shape()).items(len.value),
         TypeKind::Sequence(_, element) => measure_of_type(names, element.shape()).sequence(),
         TypeKind::Record(groups) => measured_groups(names, groups.as_slice()).of_record(),
         TypeKind::Choice(arms) => measured_arms(names, arms.as_slice()).of_choice(),
@@ -175,7 +167,7 @@ pub fn shape_measure(shape: &Shape) -> Measure
     match shape {
         Shape::LongCardinal | Shape::LongInteger => Measure::new(1, 0, 4),
         Shape::Enumeration(labels) => Measure::new((labels.len() as u64).saturating_add(1), 0, 2),
-        Shape::Array(len, element) => shape_measure(element.shape()).items(*len),
+        Shape::Array(len, element) => shape_measure(element.shape()).items(u64::from(*len)),
         Shape::Sequence(_, element) => shape_measure(element.shape()).sequence(),
         Shape::Record(fields) => fields_measure(fields.as_slice()).of_record(),
         Shape::Choice(arms) => arms_measure(arms.as_slice()).of_choice(),

@@ -4,12 +4,20 @@ ghost use Rattle.circus_value.specs.ShapeOf as shapes;
 ghost use Rattle.circus_syntax.specs.TypeOf.{tree_of, group_of, arm_of};
 ghost use Rattle.circus_syntax.specs.TypeTree.{group_trees, arm_trees};
 ghost use Rattle.circus_type.specs.Meaning as meant;
+ghost use Rattle.circus_type.specs.InRange.{IsOneWord, IsBoundInRange, AreLabelsInRange, IsInRange, AreGroupsInRange, AreArmsInRange};
 
 use crate::TypeNames;
-use crate::measuring::word;
 use circus_syntax::{ArmText, GroupText, LabelText, Named, Numeral, TypeKind, TypeText};
 use circus_value::{Arm, Arms, Duplicate, Element, Field, Fields, Label, Labels, NoMemory, Shape};
 use std::alloc::Global;
+
+/// A number of one word.
+pub fn word(number: Numeral) -> u16
+    requires { IsOneWord number }
+    ensures { result ≡ number.value }
+{
+    number.value as u16
+}
 
 /// The shape that a type means.
 #[cycle(written)]
@@ -18,6 +26,7 @@ pub fn shape_of_type<N: TypeNames>(
     names: &N,
     shape: &TypeText,
 ) -> Result<Shape, NoMemory>
+    requires { IsInRange (tree_of shape.now) }
     ensures { IfOk result (λ s.
         shapes.tree_of s ≡ meant.shape_of_type (N.forms names.now) (tree_of shape.now)) }
 {
@@ -46,6 +55,7 @@ pub fn shape_of_type<N: TypeNames>(
 }
 
 fn bound_of(bound: &Option<Numeral>) -> u16
+    requires { IsBoundInRange bound.now }
     ensures { result ≡ meant.bound_of bound.now }
 {
     match bound {
@@ -55,6 +65,7 @@ fn bound_of(bound: &Option<Numeral>) -> u16
 }
 
 fn labels(alloc: Global, list: &[LabelText]) -> Result<Labels, NoMemory>
+    requires { AreLabelsInRange list.now }
     ensures { IfOk result (λ labels. labels ≡ map meant.label_meant list.now) }
 {
     let mut labels = Labels::new(alloc);
@@ -88,6 +99,7 @@ pub fn written_groups<N: TypeNames>(
     names: &N,
     groups: &[GroupText],
 ) -> Result<Fields, NoMemory>
+    requires { AreGroupsInRange (group_trees (map group_of groups.now)) }
     ensures { IfOk result (λ fields.
         fields ≡ meant.written_groups (N.forms names.now) (group_trees (map group_of groups.now))) }
 {
@@ -101,6 +113,7 @@ pub fn written_groups<N: TypeNames>(
 
 #[cycle(written)]
 fn written_arms<N: TypeNames>(alloc: Global, names: &N, arms: &[ArmText]) -> Result<Arms, NoMemory>
+    requires { AreArmsInRange (arm_trees (map arm_of arms.now)) }
     ensures { IfOk result (λ list.
         list ≡ meant.written_arms (N.forms names.now) (arm_trees (map arm_of arms.now))) }
 {

@@ -9,7 +9,6 @@ use Rattle.circus_syntax.specs.Spelling.{most_levels}
 use Rattle.circus_type.specs.declared.measuring.Measure.{Measure}
 use Rattle.circus_type.specs.Limits.{most_parts, most_zero_bytes}
 use Rattle.circus_type.specs.Written.{parts, field_parts, arm_parts, levels, field_levels, arm_levels, zero_values, zero_size}
-use Rattle.circus_type.specs.Meaning.{word_of}
 use Rattle.circus_type.specs.Scale.{Scale}
 
 -- numbers that stop one above their limits
@@ -67,7 +66,7 @@ abbrev mutual
   measure_of_type known (long_integer _) = measure 1 0 4
   measure_of_type known (text _) = measure 1 0 2
   measure_of_type known (enumeration _ labels) = measure (1 + length labels) 0 2
-  measure_of_type known (array _ n t) = items_measure (word_of n) (measure_of_type known t)
+  measure_of_type known (array _ n t) = items_measure n.value (measure_of_type known t)
   measure_of_type known (sequence _ _ t) = sequence_measure (measure_of_type known t)
   measure_of_type known («record» _ groups) = record_measure (measured_groups known groups)
   measure_of_type known (choice _ arms) = choice_measure (measured_arms known arms)

@@ -1,12 +1,13 @@
-use Rattle.std.proofs.Common.{◌≡◌, ◌+◌, ◌∙◌, ap, sym, arith, min, map, None}
+use Rattle.std.proofs.Common.{◌≡◌, ◌+◌, ◌∙◌, ap, sym, subst, arith, min, map, None}
 use Rattle.circus_type.specs.Inside.{no_name}
 use Rattle.circus_type.specs.Limits.{most_parts}
 use Rattle.circus_type.specs.Scale.{written_out}
 use Rattle.circus_lang.specs.ModuleTree.{module_of, variable_of}
+use Rattle.circus_check.specs.InRange.{AreVariablesInRange}
 use Rattle.circus_check.specs.Faults.{forms, variables_parts, procedures_faults, head_faults, fields_of}
 use Rattle.circus_check.specs.Seen.Programs.{modules_in, interfaces_in}
 use Rattle.circus_check.specs.Seen.Scoped.{form_in}
-use Rattle.circus_check.proofs.ModulesFound.{head_then, as_found, nothing_found, where_none, if_none}
+use Rattle.circus_check.proofs.ModulesFound.{state_in_range, head_then, as_found, nothing_found, where_none, if_none}
 use Rattle.circus_check.proofs.OwnTables.{forms_are}
 use Rattle.circus_check.proofs.checking.module.Goals as goal
 use Rattle.circus_check.proofs.checking.module.Goals.{in-None+in_ok-variables-in-None, in-Some}
@@ -48,3 +49,13 @@ returns-clause-meant c =
       variables = variables i;
       bodies = where_none c.check_procedures.new.best.fault _ c.in_ok-bodies.ensures.meant none i;
     })
+
+pub fields-requires : goal.fields-requires
+fields-requires c =
+    let own = c.args.own.now in
+    let interfaces = interfaces_in c.args.program.now in
+    let modules = modules_in c.args.program.now in
+    let m = module_of own.text.now in
+    let head = head_faults interfaces modules own.number m in
+    let clean = (nothing_found c.args.best.now.fault head (sym c.in_ok-check_head.ensures.found ∙ c.in-None.is)).1 in
+    subst (λ vs. AreVariablesInRange (map variable_of vs)) (sym c.as_slice.ensures) (state_in_range interfaces modules own.number m clean)

@@ -1,4 +1,4 @@
-use Rattle.std.proofs.Common.{◌≡◌, Option, Some, None, refl, sym, ◌∙◌, ap, map, is_some, true, false}
+use Rattle.std.proofs.Common.{◌≡◌, Option, Some, None, refl, sym, subst, ◌∙◌, ap, map, is_some, true, false}
 use Rattle.circus_statement.specs.StatementTree.{statement_trees}
 use Rattle.circus_fault.specs.declared.fault.Fault.{Fault}
 use Rattle.circus_fault.specs.Least.{least_from}
@@ -8,6 +8,7 @@ use Rattle.circus_resolve.specs.Faults.{Faults}
 use Rattle.circus_body.specs.Faults.{all_faults}
 use Rattle.circus_body.specs.Meaning.{all_do}
 use Rattle.circus_lang.specs.ModuleTree.{module_of, procedure_of, variable_of}
+use Rattle.circus_check.specs.InRange.{AreVariablesInRange}
 use Rattle.circus_check.specs.Faults.{fields_of, body_faults}
 use Rattle.circus_check.specs.Meaning.{BodyMeant}
 use Rattle.circus_check.specs.Seen.Programs.{modules_in, interfaces_in}
@@ -61,3 +62,9 @@ returns-clause-meant c =
     let made = c.in_ok-made.ensures.meant ∙ ap (λ names. all_do names (statement_trees text.statements)) same in
     let meant : BodyMeant → Option BodyMeant = λ b. Some b in
     if_none c.statements.new.best.fault (λ i. meant (record { locals = written i; statements = made i }))
+
+pub fields-requires : goal.fields-requires
+fields-requires c =
+    let best = c.args.best.now.fault in
+    let none = none_is best (sym c.is_some.ensures ∙ c.if-is_some.false) in
+    subst (λ vs. AreVariablesInRange (map variable_of vs)) (sym c.as_slice.ensures) (of_none best _ c.requires.in_range none)

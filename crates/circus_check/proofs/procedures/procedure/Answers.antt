@@ -6,7 +6,7 @@ use Rattle.circus_body.specs.Seen.Named.{known_offer}
 use Rattle.circus_lang.specs.ModuleTree.{module_of, procedure_of}
 use Rattle.circus_check.specs.Faults.{procedure_faults}
 use Rattle.circus_check.specs.Seen.Programs.{modules_in, interfaces_in}
-use Rattle.circus_check.proofs.ProceduresFound.{whole_found, whole_none, nothing_offered, kept_none, of_none, if_none_by, if_lost}
+use Rattle.circus_check.proofs.ProceduresFound.{whole_found, whole_none, nothing_offered, locals_in_range, found_none, kept_none, of_none, if_none_by, if_lost}
 use Rattle.circus_check.proofs.procedures.procedure.Goals as goal
 
 pub returns-in-Some-clause-found : goal.returns-in-Some-clause-found
@@ -50,3 +50,17 @@ body-requires-clause-around c =
     let full : parts ≡ min parts (1 + most_parts) = omega (arith, c.requires.small) in
     let heads = procedure_faults (interfaces_in c.args.program.now) (modules_in c.args.program.now) own.number (module_of own.text.now) parts (holds_name c.args.so_far.now.procedures) (procedure_of c.args.text.now) in
     if_none_by c.head.new.best.fault (λ none. of_none c.args.best.now.fault _ c.requires.around (kept_none heads c.args.best.now.fault (sym (c.in_ok-offers.ensures.found parts full) ∙ none)))
+
+-- where no fault is kept behind the head none was found in it
+pub body-requires-clause-in_range : goal.body-requires-clause-in_range
+body-requires-clause-in_range c =
+    let own = c.args.own.now in
+    let interfaces = interfaces_in c.args.program.now in
+    let modules = modules_in c.args.program.now in
+    let m = module_of own.text.now in
+    let names = holds_name c.args.so_far.now.procedures in
+    let p = procedure_of c.args.text.now in
+    let parts = c.args.parts.now in
+    let full : parts ≡ min parts (1 + most_parts) = omega (arith, c.requires.small) in
+    let head = procedure_faults interfaces modules own.number m parts names p in
+    if_none_by c.head.new.best.fault (λ none. locals_in_range interfaces modules own.number m parts names p (found_none head c.args.best.now.fault c.head.new.best.fault (c.in_ok-offers.ensures.found parts full) none))

@@ -1,4 +1,4 @@
-use Rattle.std.proofs.Common.{◌≡◌, [], length, map, inr, sym, ◌∙◌, ap, subst, Some}
+use Rattle.std.proofs.Common.{◌≡◌, [], length, map, inr, sym, ◌∙◌, ap, subst, arith, Some}
 use Rattle.circus_lang.specs.ModuleTree.{ModuleTree, module_of}
 use Rattle.circus_check.specs.Meaning.{ModuleMeant}
 use Rattle.circus_check.specs.Seen.Meant.{module_as}
@@ -13,7 +13,10 @@ use Rattle.circus_config.proofs.checking.plan.Goals as goal
 
 pub returns-in-Ok-deployed-clause-deployment : goal.returns-in-Ok-deployed-clause-deployment
 returns-in-Ok-deployed-clause-deployment c =
-    c.in-Ok-deployed.ensures.meant ∙ (λ i. deployment_meant (map module_of (c.as_slice-2.ensures i)) (c.format_number.ensures i) c.args.text.deployment)
+    let whole = subst (λ ms. AreWellFormed c.args.interfaces ms) c.in-Ok.ensures.meant (subst (λ is. AreWellFormed is (map module_as c.in-Ok.checked.modules)) c.in-Ok.ensures.same c.in-Ok.ensures.well_formed) in
+    over_modules c.args.interfaces c.args.text.modules c.as_slice-2.result.now c.format_number.result c.args.text.format c.as_slice-2.ensures c.format_number.ensures whole
+    (λ numbered few distinct. c.in-Ok-deployed.ensures.meant (omega (arith, few)))
+    ∙ (λ i. deployment_meant (map module_of (c.as_slice-2.ensures i)) (c.format_number.ensures i) c.args.text.deployment)
 
 pub returns-in-Ok-deployed-clause-obeys : goal.returns-in-Ok-deployed-clause-obeys
 returns-in-Ok-deployed-clause-obeys c =

@@ -12,7 +12,7 @@ use Rattle.circus_deployment.specs.Rank.{rank_of}
 use Rattle.circus_deployment.specs.Faults.{deployment_faults}
 use Rattle.circus_deployment.specs.Answer.{answer_of}
 use Rattle.circus_deployment.proofs.Checked.{some_told, lacks_is, all_found}
-use Rattle.circus_deployment.proofs.Obeying.{obeys, few_nodes, roots_kept}
+use Rattle.circus_deployment.proofs.Obeying.{obeys, few_nodes, is_in_range, made_as_meant, roots_kept}
 use Rattle.circus_deployment.proofs.checking.check.Goals as goal
 
 pub returns-in-Some-clause-err : goal.returns-in-Some-clause-err
@@ -33,6 +33,15 @@ deployment_of-requires-clause-few c =
     c.in_ok-check_nodes.ensures c.in_ok-troupes.ensures.found c.note.ensures in
     few_nodes (map module_of c.args.modules.now) c.args.end c.args.text.now (no_least rank_of (deployment_faults (map module_of c.args.modules.now) c.args.end c.args.text.now) (sym found ∙ c.in-None.is))
 
+pub deployment_of-requires-clause-in_range : goal.deployment_of-requires-clause-in_range
+deployment_of-requires-clause-in_range c =
+    let lacks = lacks_is (map module_of c.args.modules.now) c.args.text.now (known_of c.in_ok-troupes.troupes) c.as_slice.result.now (option_map (λ (n : Named). n.name) (option_copied c.first_without_troupe-lacks.result)) c.as_slice.ensures
+    c.in_ok-troupes.ensures.numbered c.first_without_troupe-lacks.ensures in
+    let found = all_found (map module_of c.args.modules.now) c.args.end c.args.text.now (known_of c.in_ok-numbers.numbers) c.as_slice.result.now c.check_nodes.new.best.fault c.check_troupes.new.best.fault c.note.new.self.fault
+    (option_map (λ (n : Named). n.name) (option_copied c.first_without_troupe-lacks.result)) c.is_some.result c.in_ok-numbers.ensures c.as_slice.ensures lacks (c.is_some.ensures ∙ some_told c.first_without_troupe-lacks.result)
+    c.in_ok-check_nodes.ensures c.in_ok-troupes.ensures.found c.note.ensures in
+    is_in_range (map module_of c.args.modules.now) c.args.end c.args.text.now (no_least rank_of (deployment_faults (map module_of c.args.modules.now) c.args.end c.args.text.now) (sym found ∙ c.in-None.is))
+
 pub returns-clause-faultless : goal.returns-clause-faultless
 returns-clause-faultless c =
     let lacks = lacks_is (map module_of c.args.modules.now) c.args.text.now (known_of c.in_ok-troupes.troupes) c.as_slice.result.now (option_map (λ (n : Named). n.name) (option_copied c.first_without_troupe-lacks.result)) c.as_slice.ensures
@@ -42,6 +51,10 @@ returns-clause-faultless c =
     c.in_ok-check_nodes.ensures c.in_ok-troupes.ensures.found c.note.ensures in
     no_least rank_of (deployment_faults (map module_of c.args.modules.now) c.args.end c.args.text.now) (sym found ∙ c.in-None.is)
 
+pub returns-clause-meant : goal.returns-clause-meant
+returns-clause-meant c = λ few.
+    c.in_ok-deployment_of-in-None.ensures ∙ made_as_meant (map module_of c.args.modules.now) c.args.format c.args.text.now (omega (arith, few, length-map c.args.modules.now module_of))
+
 pub returns-clause-deployment : goal.returns-clause-deployment
 returns-clause-deployment c = λ in_format few distinct good.
     let lacks = lacks_is (map module_of c.args.modules.now) c.args.text.now (known_of c.in_ok-troupes.troupes) c.as_slice.result.now (option_map (λ (n : Named). n.name) (option_copied c.first_without_troupe-lacks.result)) c.as_slice.ensures
@@ -49,7 +62,7 @@ returns-clause-deployment c = λ in_format few distinct good.
     let found = all_found (map module_of c.args.modules.now) c.args.end c.args.text.now (known_of c.in_ok-numbers.numbers) c.as_slice.result.now c.check_nodes.new.best.fault c.check_troupes.new.best.fault c.note.new.self.fault
     (option_map (λ (n : Named). n.name) (option_copied c.first_without_troupe-lacks.result)) c.is_some.result c.in_ok-numbers.ensures c.as_slice.ensures lacks (c.is_some.ensures ∙ some_told c.first_without_troupe-lacks.result)
     c.in_ok-check_nodes.ensures c.in_ok-troupes.ensures.found c.note.ensures in
-    subst IsDeployment (sym c.in_ok-deployment_of-in-None.ensures)
+    subst IsDeployment (sym (c.in_ok-deployment_of-in-None.ensures ∙ made_as_meant (map module_of c.args.modules.now) c.args.format c.args.text.now (omega (arith, few, length-map c.args.modules.now module_of))))
     (obeys (map module_of c.args.modules.now) c.args.end c.args.format c.args.text.now in_format (omega (arith, few, length-map c.args.modules.now module_of)) distinct good (no_least rank_of (deployment_faults (map module_of c.args.modules.now) c.args.end c.args.text.now) (sym found ∙ c.in-None.is)))
 
 pub returns-clause-roots : goal.returns-clause-roots

@@ -11,6 +11,7 @@ use Rattle.circus_idl.specs.Means.{and_then, declarations_meant}
 use Rattle.circus_value.specs.ShapeTree.{boolean}
 use Rattle.circus_idl.proofs.FoundWhole.{found_whole}
 use Rattle.circus_idl.proofs.DraftMore.{holds_of_none}
+use Rattle.circus_idl.proofs.DeclaredInRange.{numbers_in_range}
 use Rattle.circus_idl.proofs.check.check.Goals as goal
 
 pub returns-in_ok-interface_of_draft-in-None-clause-ok : goal.returns-in_ok-interface_of_draft-in-None-clause-ok
@@ -44,3 +45,23 @@ returns-in-Some-clause-err c =
     let found = found_whole c.args.stop.now c.args.tree.now c.as_slice.result.now first.scope _ _ last.scope.best.fault
     c.start-draft.ensures.found c.start-draft.ensures.cut c.start-draft.ensures.before c.note_above.ensures c.note_above-2.ensures c.in_ok-declare_all.ensures.found c.as_slice.ensures in
     inr (c.in-Some.fault, sym found ∙ c.in-Some.is, c.answer.ensures)
+
+pub interface_of_draft-requires-clause-number : goal.interface_of_draft-requires-clause-number
+interface_of_draft-requires-clause-number c =
+    let tree = interface_of c.args.tree.now in
+    let stop = c.args.stop.now in
+    let first = c.start-draft.result in
+    let last = c.declare_all.new.draft in
+    let found = found_whole stop c.args.tree.now c.as_slice.result.now first.scope _ _ last.scope.best.fault
+    c.start-draft.ensures.found c.start-draft.ensures.cut c.start-draft.ensures.before c.note_above.ensures c.note_above-2.ensures c.in_ok-declare_all.ensures.found c.as_slice.ensures in
+    (numbers_in_range stop tree (no_least rank_of (read_faults stop tree) (sym found ∙ c.in-None.is))).0
+
+pub interface_of_draft-requires-clause-version : goal.interface_of_draft-requires-clause-version
+interface_of_draft-requires-clause-version c =
+    let tree = interface_of c.args.tree.now in
+    let stop = c.args.stop.now in
+    let first = c.start-draft.result in
+    let last = c.declare_all.new.draft in
+    let found = found_whole stop c.args.tree.now c.as_slice.result.now first.scope _ _ last.scope.best.fault
+    c.start-draft.ensures.found c.start-draft.ensures.cut c.start-draft.ensures.before c.note_above.ensures c.note_above-2.ensures c.in_ok-declare_all.ensures.found c.as_slice.ensures in
+    (numbers_in_range stop tree (no_least rank_of (read_faults stop tree) (sym found ∙ c.in-None.is))).1

@@ -1,4 +1,4 @@
-use Rattle.std.proofs.Common.{◌≡◌, ◌+◌, ◌∙◌, ap, sym, map, drop}
+use Rattle.std.proofs.Common.{◌≡◌, ◌+◌, ◌∙◌, ap, sym, subst, map, drop}
 use Rattle.circus_syntax.specs.InterfaceTree.{declared_of}
 use Rattle.circus_fault.specs.Least.{least_from}
 use Rattle.circus_fault.specs.Seen.Tables.{known_of}
@@ -7,11 +7,14 @@ use Rattle.circus_idl.specs.Rank.{rank_of}
 use Rattle.circus_idl.specs.Seen.Known.{type_form}
 use Rattle.circus_idl.specs.Seen.Scoped.{before_of, cut_in}
 use Rattle.circus_idl.specs.Seen.Drafted.{draft_meaning}
-use Rattle.circus_idl.specs.Faults.{behind, declared_faults, declarations_faults}
+use Rattle.circus_type.specs.declared.measuring.Measure.{Measure}
+use Rattle.circus_idl.specs.InRange.{AreWords}
+use Rattle.circus_idl.specs.Faults.{Before, behind, declared_faults, declarations_faults}
 use Rattle.circus_idl.specs.Means.{and_then, declared_meant, declarations_meant, forms_behind}
 use Rattle.circus_type.specs.Seen.Measured.{cut_off}
 use Rattle.circus_type.proofs.Dropped.{drop_more}
-use Rattle.circus_idl.proofs.DraftMore.{by_none, holds_of_none, none_before, meant_step}
+use Rattle.circus_idl.proofs.DraftMore.{by_none, holds_of_none, none_before, behind_errors, meant_step}
+use Rattle.circus_idl.proofs.DeclaredInRange.{none_found, words_behind}
 use Rattle.circus_idl.proofs.check.declare_all.Goals as goal
 
 pub loop-item-preserved : goal.loop-item-preserved
@@ -41,4 +44,8 @@ loop-item-preserved c =
           let all = holds_of_none old.scope.best.fault (and_then (draft_meaning old) (declarations_meant form before.errors (map declared_of (drop c.loop-item.item-index c.args.declared.now))) ≡ whole) none_old c.loop-item.invariant.meant in
           meant_step form (type_form new.scope.types) before (before_of new.scope) d ds (draft_meaning old) (draft_meaning new) whole formed c.in_ok-add.ensures.behind one
           (ap (λ xs. and_then (draft_meaning old) (declarations_meant form before.errors xs)) (sym left) ∙ all));
+      errors = by_none new.scope.best.fault _ (λ none.
+          let words = holds_of_none old.scope.best.fault (AreWords before.errors) (none_before old.scope.best.fault this (sym found ∙ none)) c.loop-item.invariant.errors in
+          let behind_is = ap (λ (b : Before Measure). b.errors) c.in_ok-add.ensures.behind ∙ behind_errors before d in
+          subst AreWords (sym behind_is) (words_behind cut_off cut before d (none_found old.scope.best.fault this (sym found ∙ none)) words));
     }

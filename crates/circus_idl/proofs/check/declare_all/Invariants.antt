@@ -7,6 +7,7 @@ use Rattle.circus_idl.specs.Rank.{rank_of}
 use Rattle.circus_idl.specs.Seen.Known.{type_form}
 use Rattle.circus_idl.specs.Seen.Scoped.{before_of, cut_in}
 use Rattle.circus_idl.specs.Seen.Drafted.{draft_meaning}
+use Rattle.circus_idl.specs.InRange.{AreWords}
 use Rattle.circus_idl.specs.Faults.{declarations_faults}
 use Rattle.circus_idl.specs.Means.{and_then, declarations_meant}
 use Rattle.circus_type.specs.Seen.Measured.{cut_off}
@@ -21,4 +22,5 @@ invariant-loop-item l = record {
   meant : IfNone l.draft.scope.best.fault
       (and_then (draft_meaning l.draft) (declarations_meant (type_form l.draft.scope.types) (known_of l.draft.scope.errors) (map declared_of (drop l.item-index l.declared)))
       ≡ and_then (draft_meaning l.fn.draft) (declarations_meant (type_form l.fn.draft.scope.types) (known_of l.fn.draft.scope.errors) (map declared_of l.declared)));
+  errors : IfNone l.draft.scope.best.fault (AreWords (known_of l.draft.scope.errors));
 }

@@ -4,7 +4,8 @@ use Rattle.circus_fault.proofs.LeastMore.{least_step}
 use Rattle.circus_type.proofs.Dropped.{drop_more}
 use Rattle.circus_deployment.specs.Rank.{rank_of}
 use Rattle.circus_deployment.specs.Faults.{node_faults, behind_node, nodes_faults, behind_nodes}
-use Rattle.circus_deployment.specs.Seen.{before_of}
+use Rattle.circus_deployment.specs.Seen.{before_of, as_counted}
+use Rattle.circus_deployment.proofs.NodesMore.{counted_faults, counted_nodes}
 use Rattle.circus_deployment.proofs.nodes.SeenNodes.nodes.Goals as goal
 
 pub loop-host-preserved : goal.loop-host-preserved
@@ -19,7 +20,10 @@ loop-host-preserved c =
     record {
       found =
           ap (λ b. least_from rank_of new (nodes_faults b rest)) c.in_ok-node.ensures.behind
+          ∙ ap (least_from rank_of new) (counted_faults (behind_node before h.name h.port) rest)
           ∙ least_step rank_of new best _ (node_faults before h.name h.port) (nodes_faults (behind_node before h.name h.port) rest) c.in_ok-node.ensures.found
           (ap (λ hs. least_from rank_of best (nodes_faults before hs)) (sym left) ∙ c.loop-host.invariant.found);
-      behind = ap (λ b. behind_nodes b rest) c.in_ok-node.ensures.behind ∙ ap (λ hs. behind_nodes before hs) (sym left) ∙ c.loop-host.invariant.behind;
+      behind =
+          ap (λ b. as_counted (behind_nodes b rest)) c.in_ok-node.ensures.behind ∙ counted_nodes (behind_node before h.name h.port) rest
+          ∙ ap (λ hs. as_counted (behind_nodes before hs)) (sym left) ∙ c.loop-host.invariant.behind;
     }
