@@ -53,7 +53,7 @@ pub struct CheckedPlace {
 #[derive(Debug, Drop)]
 pub enum CheckedSuffix {
     /// The field of a record at this place.
-    Field(u16),
+    Field(usize),
     /// The arm of a choice with this number.
     Arm(u16),
     /// An item of an array or a sequence.

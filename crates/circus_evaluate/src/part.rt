@@ -14,7 +14,7 @@ use circus_value::{NoMemory, Value, Values, external_size};
 #[derive(Clone, Copy, Debug)]
 pub enum Step {
     /// To the field at this place.
-    Field(u16),
+    Field(usize),
     /// To the arm with this number.
     Arm(u16),
     /// To the item under this subscript, counted from 0.
@@ -29,7 +29,7 @@ pub(crate) fn part_by(value: &Value, step: Step) -> Result<&Value, LanguageError
 {
     match step {
         Step::Field(place) => match value {
-            Value::Record(items) => item(items, u64::from(place), LanguageError::WrongChoice),
+            Value::Record(items) => item(items, place, LanguageError::WrongChoice),
             _ => Err(LanguageError::WrongChoice),
         },
         Step::Arm(arm) => match value {
@@ -52,19 +52,19 @@ fn item_under(items: &Values, subscript: i64) -> Result<&Value, LanguageError>
     if subscript < 0 {
         Err(LanguageError::Index)
     } else {
-        item(items, subscript as u64, LanguageError::Index)
+        item(items, subscript as usize, LanguageError::Index)
     }
 }
 
 // The item at a place, or what is raised where there is none.
 #[tactic(auto, using(crate::proofs::Items::list_of_trees))]
-fn item(items: &Values, place: u64, missing: LanguageError) -> Result<&Value, LanguageError>
+fn item(items: &Values, place: usize, missing: LanguageError) -> Result<&Value, LanguageError>
     ensures { MatchResult result (λ part.
         ok_or (slice_get (parts.list_of (value_trees items.now)) place) missing
         ≡ Ok (tree_of part.now)) (λ error.
         ok_or (slice_get (parts.list_of (value_trees items.now)) place) missing ≡ Err error) }
 {
-    items.get(place as usize).ok_or(missing)
+    items.get(place).ok_or(missing)
 }
 
 /// The part of a value that steps lead to. It raises, by the first step that leads nowhere, `Index` for a subscript below 0
@@ -126,7 +126,7 @@ pub(crate) fn put_in(value: &mut Value, steps: &[Step], what: Put) -> Result<(),
     };
     match *step {
         Step::Field(place) => match value {
-            Value::Record(items) => put_item(items, usize::from(place), rest, what),
+            Value::Record(items) => put_item(items, place, rest, what),
             _ => Ok(()),
         },
         Step::Arm(arm) => match value {

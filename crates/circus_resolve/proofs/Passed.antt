@@ -13,7 +13,7 @@ use Rattle.circus_checked.specs.Sorts.{Sort, a_number, of, a_truth, field_in, ar
 use Rattle.circus_fault.specs.Least.{faults_if}
 use Rattle.circus_resolve.specs.declared.cause.CheckCause.{CheckCause}
 use Rattle.circus_resolve.specs.Passing.{sort_eq, is_number, is_truth, is_text}
-use Rattle.circus_resolve.specs.Faults.{faults_unless, field_count}
+use Rattle.circus_resolve.specs.Faults.{faults_unless}
 use Rattle.circus_resolve.specs.Named.{FieldFound, ArmFound, label_named, field_from, arm_named}
 use Rattle.circus_resolve.specs.Regular.{IsRegular, AreRegular, HasRegular, HasNone}
 use Rattle.circus_resolve.proofs.Deciding.{shapes_decide}
@@ -83,7 +83,6 @@ label_is labels name n all is =
 pub record FieldIs (before : ℕ) (fs : FieldTrees) (f : FieldFound) : Type 0 where
   pub place : ℕ
   pub at : f.place ≡ before + place
-  pub below : place < field_count fs
   pub there : field_in fs place ≡ Some f.shape
   pub regular : IsRegular f.shape
 
@@ -98,13 +97,12 @@ field_is before (more_fields n s fs) name f all is = by_name (λ later. field_is
         record {
           place = 0;
           at = omega (arith, ap (λ (x : FieldFound). x.place) same);
-          below = omega arith;
           there = ap (λ (x : FieldFound). Some x.shape) same;
           regular = subst (λ (x : FieldFound). IsRegular x.shape) same all.0;
         }
     by_name others false found =
         let later = others found in
-        record { place = suc later.place; at = omega (arith, later.at); below = omega (arith, later.below); there = later.there; regular = later.regular }
+        record { place = suc later.place; at = omega (arith, later.at); there = later.there; regular = later.regular }
 
 -- an arm has its number
 none_has : (n : ℕ) (arms : ArmTrees) (name : List ℕ) (a : ArmFound) → HasNone n arms → arm_named arms name ≡ Some a → n ≡ a.number → ⊥

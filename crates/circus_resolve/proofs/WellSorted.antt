@@ -1,5 +1,5 @@
 -- What is resolved without a fault is well formed.
-use Rattle.std.proofs.Common.{◌≡◌, ℕ, zero, suc, ◌+◌, ◌≤◌, Bool, true, false, not, ◌==◌, nat_lt, List, [], ◌∷◌, ◌++◌, Option, Some, None, min, refl, sym, ap, subst, ◌∙◌, arith}
+use Rattle.std.proofs.Common.{◌≡◌, ℕ, zero, suc, ◌+◌, ◌≤◌, Bool, true, false, not, ◌==◌, nat_lt, List, [], ◌∷◌, ◌++◌, Option, Some, None, refl, sym, ap, subst, ◌∙◌, arith}
 use Rattle.std.specs.Prelude.{is_none, option_map, unwrap_or, cond}
 use Rattle.std.proofs.lemmas.Bool.{false≢true}
 use Rattle.std.proofs.lemmas.Bool.Decides.{Decides-eqb, nat_tests}
@@ -211,17 +211,14 @@ module _ (variables : List ShapeTree) where
 
   -- ---- suffixes
 
-  small : (n : ℕ) → n ≤ 65535 → min n 65535 ≡ n
-  small n below = grind (arith)
-
   field_well : (first : ℕ) (t : ShapeTree) (name : Named) → IsRegular t → field_faults first (Some t) name ≡ []
       → (u : ShapeTree) × (field_shape (Some t) name.name ≡ Some u)
       × ((ss : List c.SuffixTree) (w : ShapeTree) → Leads variables (c.suffix_trees ss) u w → Leads variables (c.suffix_trees (field_meant (Some t) name.name ∷ ss)) t w) × IsRegular u
   field_well first (shape.«record» fs) name all none =
       let (x, is) = some_found (field_named fs name.name) (no_fault (is_none (field_named fs name.name)) name.at Unknown none) in
       let found = field_is 0 fs name.name x all.1 is in
-      let place : field_place (field_named fs name.name) ≡ found.place =
-      ap field_place is ∙ ap (λ n. min n 65535) (omega (arith, found.at)) ∙ small found.place (omega (arith, found.below, all.0)) in (
+      let at : x.place ≡ found.place = omega (arith, found.at) in
+      let place : field_place (field_named fs name.name) ≡ found.place = ap field_place is ∙ at in (
         x.shape,
         ap (option_map (λ (f : FieldFound). f.shape)) is,
         (λ ss w leads. subst (λ n. Leads variables (c.in_field n (c.suffix_trees ss)) (shape.«record» fs) w) (sym place) (h.to_field found.place (c.suffix_trees ss) fs x.shape w found.there leads)),

@@ -1,6 +1,6 @@
 -- What expressions and places mean: trees without names, in which each number that is stored as one of a kind is converted to it.
 -- Where something is unknown the tree stands for nothing.
-use Rattle.std.specs.Prelude.{ℕ, ◌+◌, min, Option, Some, None, List, [], ◌∷◌, unwrap_or}
+use Rattle.std.specs.Prelude.{ℕ, ◌+◌, Option, Some, None, List, [], ◌∷◌, unwrap_or}
 use Rattle.circus_value.specs.ShapeTree.{ShapeTree, enumeration, array, sequence, «record», choice}
 use Rattle.circus_expression.specs.ExpressionTree.{ExpressionTree, KindTree, ExpressionTrees, SuffixTrees, PlaceTree, suffix_trees}
 use Rattle.circus_expression.specs.ExpressionTree as e
@@ -74,10 +74,10 @@ form_of (Some (array _ _)) = form.Array
 form_of (Some (sequence _ _)) = form.Sequence
 form_of _ = form.Record
 
--- the place of a field, which is a word since a type has no more parts
+-- the place of a field
 abbrev pub field_place : Option FieldFound → ℕ
 field_place None = 0
-field_place (Some f) = min f.place 65535
+field_place (Some f) = f.place
 
 -- a field of a record, or an arm of a choice
 abbrev pub field_meant : Option ShapeTree → List ℕ → c.SuffixTree

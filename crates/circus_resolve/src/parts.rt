@@ -176,7 +176,7 @@ impl Findings {
                 self.note(field.is_none(), name.at, CheckCause::Unknown);
                 match field {
                     Some(field) => (
-                        CheckedSuffix::Field(field.place.min(65_535) as u16),
+                        CheckedSuffix::Field(field.place),
                         Some(field.shape),
                     ),
                     None => (CheckedSuffix::Field(0), None),
