@@ -38,7 +38,7 @@ use Rattle.circus_check.proofs.CleanModules.{CleanProcedure}
 use Rattle.circus_check.proofs.CleanVariables.{AreClean}
 use Rattle.circus_check.proofs.Declared.{procedure_declared, error_declared}
 use Rattle.circus_check.proofs.Endings.{all_end_meant}
-use Rattle.circus_check.proofs.Interfaces.{Fits, ArgumentsObey, all_fit, as_many_parts}
+use Rattle.circus_check.proofs.Interfaces.{Fits, ArgumentsObey, all_fit}
 use Rattle.circus_check.proofs.Named.{at_place}
 use Rattle.circus_check.proofs.NamesApart.{all_apart}
 use Rattle.circus_check.proofs.PlacesFound.{shapes_together, together, place_found}
@@ -159,12 +159,12 @@ module _ (interfaces : List Interface) (modules : List ModuleTree) where
 
     -- ---- the whole of what it may name
 
-    whole_context : (state arguments locals : List FieldTree) (own : Offered) → length state + length arguments + length locals ≤ 65535 → AllByRecursion Fits (shapes_together state arguments locals)
+    whole_context : (state arguments locals : List FieldTree) (own : Offered) → AllByRecursion Fits (shapes_together state arguments locals)
         → IsWholeContext (shapes_together state arguments locals) (context_of interfaces modules n m (variables_of (field_trees state) (field_trees arguments) (field_trees locals)) own)
-    whole_context state arguments locals own few fit = record {
+    whole_context state arguments locals own fit = record {
       scope = record {
-        found = λ name v is. place_found state arguments locals name v few is;
-        regular = λ name v is. regular v (at_place Fits (shapes_together state arguments locals) v.place v.shape fit (place_found state arguments locals name v few is));
+        found = λ name v is. place_found state arguments locals name v is;
+        regular = λ name v is. regular v (at_place Fits (shapes_together state arguments locals) v.place v.shape fit (place_found state arguments locals name v is));
         said = λ q type. named_said interfaces modules known n m own_known clean q type;
         types = λ q type shape is. (let fits = named_fits interfaces obey modules n m q type shape is in is_regular shape fits.inside (omega (arith, fits.few)));
       };
@@ -212,9 +212,6 @@ module _ (interfaces : List Interface) (modules : List ModuleTree) where
         context_is : context interfaces modules n m q ≡ here
         context_is = λ i. context_of interfaces modules n m (variables_of (field_trees state) ((ap arguments_of offered_is ∙ arguments_are) i) (field_trees locals)) (own_of (offered_is i))
 
-        few_variables : length state + length arguments + length locals ≤ 65535
-        few_variables = omega (arith, as_many_parts (shapes_of state), as_many_parts (shapes_of locals), length-map state (λ (f : FieldTree). f.shape), length-map locals (λ (f : FieldTree). f.shape), obeyed.few, state_few, few)
-
         fit : AllByRecursion Fits (shapes_together state arguments locals)
         fit =
             all_appended Fits (shapes_of state ++ shapes_of arguments) (shapes_of locals)
@@ -222,7 +219,7 @@ module _ (interfaces : List Interface) (modules : List ModuleTree) where
             (all_fit (shapes_of locals) locals_clean.whole (omega (arith, few)))
 
         whole : IsWholeContext (shapes_together state arguments locals) here
-        whole = whole_context state arguments locals o few_variables fit
+        whole = whole_context state arguments locals o fit
 
         none : all_faults here statements ≡ []
         none = ap (λ k. all_faults k statements) (sym context_is) ∙ own.body

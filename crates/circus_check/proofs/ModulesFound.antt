@@ -1,5 +1,5 @@
 -- The modules up to the first that is one too many, one by one.
-use Rattle.std.proofs.Common.{◌≡◌, ℕ, zero, suc, ◌+◌, ◌<◌, false, List, [], ◌∷◌, ◌++◌, take, drop, refl, sym, ◌∙◌, ap, arith, append_assoc, Option, Some, None}
+use Rattle.std.proofs.Common.{◌≡◌, ℕ, zero, suc, ◌+◌, ◌<◌, ◌≤◌, false, List, [], ◌∷◌, ◌++◌, take, drop, refl, sym, ◌∙◌, ap, arith, append_assoc, Option, Some, None}
 use Rattle.std.proofs.lemmas.List.{append-nil}
 use Rattle.std.specs.Prelude.{slice_get, IfNone, ◌==◌}
 use Rattle.std.proofs.lemmas.Option.{same_Some}
@@ -8,6 +8,7 @@ use Rattle.circus_fault.specs.Least.{least_from}
 use Rattle.circus_fault.proofs.Items.{none_in}
 use Rattle.circus_fault.proofs.LeastIs.{never_lost, no_least}
 use Rattle.circus_fault.proofs.LeastMore.{least_more}
+use Rattle.circus_type.specs.Limits.{most_parts}
 use Rattle.circus_type.specs.Scale.{written_out}
 use Rattle.circus_resolve.specs.declared.cause.CheckCause.{CheckCause}
 use Rattle.circus_resolve.specs.Causes.{rank}
@@ -15,12 +16,12 @@ use Rattle.circus_resolve.specs.Faults.{Faults}
 use Rattle.circus_idl.specs.declared.interface.Interface.{Interface}
 use Rattle.circus_lang.specs.ModuleTree.{ModuleTree}
 use Rattle.circus_check.specs.InRange.{AreVariablesInRange}
-use Rattle.circus_check.specs.Faults.{parameters_of, variables_faults, state_faults, interface, unknown_place, forms, head_faults, module_faults, modules_faults, faults}
+use Rattle.circus_check.specs.Faults.{parameters_of, variables_faults, variables_parts, state_faults, interface, unknown_place, forms, head_faults, module_faults, modules_faults, faults}
 use Rattle.circus_limits.specs.Limits.{most_modules}
 use Rattle.circus_check.specs.Meaning.{ModuleMeant, module_meant, modules_meant}
 use Rattle.circus_check.specs.Seen.Progress.{Found}
 use Rattle.circus_check.proofs.CleanModules.{module_clean}
-use Rattle.circus_check.proofs.CleanVariables.{variables_in_range}
+use Rattle.circus_check.proofs.CleanVariables.{variables_in_range, variables_few}
 
 -- of the first few items, those from one on
 pub drop_taken : {X : Type 0} (xs : List X) (n i : ℕ) (x : X) → i < n → slice_get xs i ≡ Some x → drop i (take n xs) ≡ x ∷ drop (i + 1) (take n xs)
@@ -85,6 +86,14 @@ module _ (interfaces : List Interface) (modules : List ModuleTree) where
       let outer = parameters_of (interface interfaces modules i m) in
       variables_in_range written_out types shapes 0 outer m.variables
       (none_in _ (variables_faults written_out types shapes 0 outer m.variables) (none_in _ (state_faults types shapes outer m) clean).0).1
+
+  -- and few variables
+  pub state_few : (i : ℕ) (m : ModuleTree) → head_faults interfaces modules i m ≡ [] → variables_parts written_out (forms interfaces modules i m) 0 m.variables ≤ most_parts
+  state_few i m clean =
+      let types = unknown_place interfaces modules i m in
+      let shapes = forms interfaces modules i m in
+      let outer = parameters_of (interface interfaces modules i m) in
+      variables_few types shapes 0 outer m.variables (none_in _ (variables_faults written_out types shapes 0 outer m.variables) (none_in _ (state_faults types shapes outer m) clean).0).1 (omega arith)
 
   -- a module without a fault isn't one too many
   pub not_too_many : (best new : Option (Fault CheckCause)) (i : ℕ) (m : ModuleTree) (left : List ModuleTree) → (before : Found interfaces modules best i left) → new ≡ least_from rank best (module_faults interfaces modules i m before.all) → new ≡ None → (i == most_modules) ≡ false

@@ -1,5 +1,5 @@
 -- The shapes of variables by their places.
-use Rattle.std.proofs.Common.{◌≡◌, ℕ, suc, ◌+◌, ◌<◌, ◌≤◌, Bool, true, false, cond, min, List, ◌++◌, length, sym, ◌∙◌, ap, arith, length-append, Option, Some, None, ◌⊎◌, inl, inr}
+use Rattle.std.proofs.Common.{◌≡◌, ℕ, suc, ◌+◌, ◌<◌, ◌≤◌, Bool, true, false, cond, List, ◌++◌, length, sym, ◌∙◌, ap, arith, length-append, Option, Some, None, ◌⊎◌, inl, inr}
 use Rattle.std.specs.Prelude.{bytes_eq, slice_get}
 use Rattle.std.proofs.lemmas.List.{map-append, length-map}
 use Rattle.std.proofs.lemmas.Option.{same_Some, slice_get-map, slice_get_within}
@@ -16,27 +16,27 @@ use Rattle.circus_check.specs.Scope.{variables_behind, places_behind, variables_
 pub record StandsAt (n : ℕ) (fs : FieldTrees) (v : Variable) : Type 0 where
   pub place : ℕ
   pub there : field_at fs place ≡ Some v.shape
-  pub at : v.place ≡ min (n + place) 65535
+  pub at : v.place ≡ n + place
 
 pub variable_stands : (n : ℕ) (fs : FieldTrees) (earlier : List ℕ → Option Variable) (name : List ℕ) (v : Variable) → variables_behind n fs earlier name ≡ Some v → (earlier name ≡ Some v) ⊎ StandsAt n fs v
 variable_stands n no_fields earlier name v is = inl is
-variable_stands n (more_fields field s fs) earlier name v is = by (variable_stands (n + 1) fs (standing_for field (Some (record { place = min n 65535; shape = s })) earlier) name v is)
+variable_stands n (more_fields field s fs) earlier name v is = by (variable_stands (n + 1) fs (standing_for field (Some (record { place = n; shape = s })) earlier) name v is)
   where
     own : Variable
-    own = record { place = min n 65535; shape = s }
+    own = record { place = n; shape = s }
 
     here : (b : Bool) → cond b (Some own) (earlier name) ≡ Some v → (earlier name ≡ Some v) ⊎ StandsAt n (more_fields field s fs) v
     here true same =
         let e : own ≡ v = same_Some own v same in
         let none : n ≡ n + 0 = omega arith in
-        inr (record { place = 0; there = ap (λ (x : Variable). Some x.shape) e; at = sym (ap (λ (x : Variable). x.place) e) ∙ ap (λ k. min k 65535) none })
+        inr (record { place = 0; there = ap (λ (x : Variable). Some x.shape) e; at = sym (ap (λ (x : Variable). x.place) e) ∙ none })
     here false before = inl before
 
     by : (standing_for field (Some own) earlier name ≡ Some v) ⊎ StandsAt (n + 1) fs v → (earlier name ≡ Some v) ⊎ StandsAt n (more_fields field s fs) v
     by (inl same) = here (bytes_eq field name) same
     by (inr further) =
         let e : n + 1 + further.place ≡ n + suc further.place = omega arith in
-        inr (record { place = suc further.place; there = further.there; at = further.at ∙ ap (λ k. min k 65535) e })
+        inr (record { place = suc further.place; there = further.there; at = further.at ∙ e })
 
 pub places_counted : (n : ℕ) (fs : FieldTrees) → places_behind n fs ≡ n + field_count fs
 places_counted n no_fields = omega arith
@@ -54,9 +54,9 @@ together state arguments locals =
     map-append (λ (f : FieldTree). f.shape) (state ++ arguments) locals ∙ ap (λ ss. ss ++ shapes_of locals) (map-append (λ (f : FieldTree). f.shape) state arguments)
 
 -- a variable's place leads to its shape
-pub place_found : (state arguments locals : List FieldTree) (name : List ℕ) (v : Variable) → length state + length arguments + length locals ≤ 65535
+pub place_found : (state arguments locals : List FieldTree) (name : List ℕ) (v : Variable)
     → variables_of (field_trees state) (field_trees arguments) (field_trees locals) name ≡ Some v → slice_get (shapes_together state arguments locals) v.place ≡ Some v.shape
-place_found state arguments locals name v few is = by_locals (variable_stands (places_behind (places_behind 0 (field_trees state)) (field_trees arguments)) (field_trees locals) _ name v is)
+place_found state arguments locals name v is = by_locals (variable_stands (places_behind (places_behind 0 (field_trees state)) (field_trees arguments)) (field_trees locals) _ name v is)
   where
     s : List ShapeTree
     s = shapes_of state
@@ -81,7 +81,7 @@ place_found state arguments locals name v few is = by_locals (variable_stands (p
         let k = stands.place in
         let there : slice_get s k ≡ Some v.shape = shape_there state k ∙ stands.there in
         let within : k < length s = slice_get_within s k v.shape there in
-        let at : v.place ≡ k = omega (arith, stands.at, within, lengths.0, few) in
+        let at : v.place ≡ k = omega (arith, stands.at) in
         ap (slice_get (s ++ a ++ l)) at ∙ slice_get-append_left (s ++ a) l k (omega (arith, within, length-append s a)) ∙ slice_get-append_left s a k within ∙ there
 
     in_arguments : StandsAt (places_behind 0 (field_trees state)) (field_trees arguments) v → slice_get (s ++ a ++ l) v.place ≡ Some v.shape
@@ -89,7 +89,7 @@ place_found state arguments locals name v few is = by_locals (variable_stands (p
         let k = stands.place in
         let there : slice_get a k ≡ Some v.shape = shape_there arguments k ∙ stands.there in
         let within : k < length a = slice_get_within a k v.shape there in
-        let at : v.place ≡ length s + k = omega (arith, stands.at, within, lengths.0, lengths.1, few, behind_state) in
+        let at : v.place ≡ length s + k = omega (arith, stands.at, lengths.0, behind_state) in
         ap (slice_get (s ++ a ++ l)) at ∙ slice_get-append_left (s ++ a) l (length s + k) (omega (arith, within, length-append s a)) ∙ slice_get-append_right s a k ∙ there
 
     in_locals : StandsAt (places_behind (places_behind 0 (field_trees state)) (field_trees arguments)) (field_trees locals) v → slice_get (s ++ a ++ l) v.place ≡ Some v.shape
@@ -97,7 +97,7 @@ place_found state arguments locals name v few is = by_locals (variable_stands (p
         let k = stands.place in
         let there : slice_get l k ≡ Some v.shape = shape_there locals k ∙ stands.there in
         let within : k < length l = slice_get_within l k v.shape there in
-        let at : v.place ≡ length (s ++ a) + k = omega (arith, stands.at, within, lengths.0, lengths.1, lengths.2, few, behind_arguments, length-append s a) in
+        let at : v.place ≡ length (s ++ a) + k = omega (arith, stands.at, lengths.0, lengths.1, behind_arguments, length-append s a) in
         ap (slice_get (s ++ a ++ l)) at ∙ slice_get-append_right (s ++ a) l k ∙ there
 
     by_state : (None ≡ Some v) ⊎ StandsAt 0 (field_trees state) v → slice_get (s ++ a ++ l) v.place ≡ Some v.shape

@@ -1,6 +1,6 @@
 -- Procedures in order: what is found behind what, and what there is where nothing is found.
-use Rattle.std.proofs.Common.{◌≡◌, ℕ, ◌+◌, ◌≤◌, Bool, true, false, cond, min, List, [], ◌∷◌, ◌++◌, Option, Some, None, is_none, refl, sym, ◌∙◌, ap, arith}
-use Rattle.std.specs.Prelude.{bytes_eq, ◌||◌, IfNone}
+use Rattle.std.proofs.Common.{◌≡◌, ℕ, ◌+◌, ◌≤◌, Bool, true, false, cond, min, List, [], ◌∷◌, ◌++◌, Option, Some, None, is_none, refl, sym, ◌∙◌, ap, subst, arith, ◌⊎◌, inl, inr}
+use Rattle.std.specs.Prelude.{bytes_eq, ◌||◌, IfNone, Contains}
 use Rattle.std.specs.List.{AllByRecursion, position_from}
 use Rattle.circus_syntax.specs.declared.named.Named.{Named}
 use Rattle.circus_statement.specs.StatementTree.{StatementTree}
@@ -21,17 +21,24 @@ use Rattle.circus_idl.specs.declared.interface.Procedure.{Procedure}
 use Rattle.circus_idl.specs.declared.interface.Interface.{Interface}
 use Rattle.circus_idl.specs.Meaning.{standing_for}
 use Rattle.circus_idl.specs.Obeys.{Obeys}
-use Rattle.circus_lang.specs.ModuleTree.{ModuleTree, ProcedureOf}
+use Rattle.circus_lang.specs.ModuleTree.{ModuleTree, VariableTree, ProcedureOf}
+use Rattle.circus_syntax.specs.declared.named.TypeName.{TypeName}
+use Rattle.circus_value.specs.ShapeTree.{ShapeTree}
+use Rattle.circus_resolve.specs.Faults.{field_count}
+use Rattle.circus_resolve.proofs.Shapes.{field_count_is}
+use Rattle.std.proofs.lemmas.Option.{same_Some}
+use Rattle.circus_check.specs.Seen.Surroundings.{AreFew}
 use Rattle.circus_check.specs.Naming.{interface_called}
-use Rattle.circus_check.specs.Scope.{offered_behind, offered_by, offered_in, offered_here, implemented_by}
+use Rattle.circus_check.specs.Scope.{main_offered, offered_behind, offered_by, offered_in, offered_here, implemented_by}
 use Rattle.circus_check.specs.InRange.{AreVariablesInRange}
 use Rattle.circus_check.specs.Faults.{also_fields, also_variables, arguments_of, unknown_place, has_procedure, forms, offer_of, variables_parts, procedure_faults, body_faults, unless_behind, whole_procedure, procedures_faults}
 use Rattle.circus_check.specs.Meaning.{in_interface_order}
 use Rattle.circus_check.specs.Seen.Programs.{order_of}
 use Rattle.circus_check.specs.Seen.Tables.{unless_kept}
 use Rattle.circus_check.proofs.BodiesPlaced.{AreApart, IsThere, in_place}
-use Rattle.circus_check.proofs.Interfaces.{procedures_distinct}
-use Rattle.circus_check.proofs.CleanVariables.{variables_in_range}
+use Rattle.circus_check.proofs.Declared.{procedure_declared}
+use Rattle.circus_check.proofs.Interfaces.{arguments_obey, procedures_distinct}
+use Rattle.circus_check.proofs.CleanVariables.{as_many_variables, variables_in_range, variables_few}
 use Rattle.circus_check.proofs.Standings.{called_obeys}
 
 -- what is kept was found
@@ -81,6 +88,11 @@ module _ (interfaces : List Interface) (modules : List ModuleTree) (i : ℕ) (m 
   locals_in_range before names p clean =
       variables_in_range written_out (unknown_place interfaces modules i m) (forms interfaces modules i m) before (also_fields (arguments_of (offer_of interfaces modules i m p)) (also_variables m.variables no_name)) p.body.variables (none_in _ _ clean).1
 
+  -- and with them there are few parts
+  pub locals_few : (before : ℕ) (names : List ℕ → Bool) (p : ProcedureOf StatementTree) → procedure_faults interfaces modules i m before names p ≡ [] → before ≤ most_parts → variables_parts written_out (forms interfaces modules i m) before p.body.variables ≤ most_parts
+  locals_few before names p clean few =
+      variables_few (unknown_place interfaces modules i m) (forms interfaces modules i m) before (also_fields (arguments_of (offer_of interfaces modules i m p)) (also_variables m.variables no_name)) p.body.variables (none_in _ _ clean).1 few
+
   -- one that offers nothing has a fault
   pub nothing_offered : (before : ℕ) (names : List ℕ → Bool) (p : ProcedureOf StatementTree) (best new : Option (Fault CheckCause)) → new ≡ least_from rank best (procedure_faults interfaces modules i m before names p)
       → offer_of interfaces modules i m p ≡ None → new ≡ None → ⊥
@@ -88,6 +100,9 @@ module _ (interfaces : List Interface) (modules : List ModuleTree) (i : ℕ) (m 
       let offers = offered_clean before names p (found_none (procedure_faults interfaces modules i m before names p) best new is none) in
       let gone : is_none (offer_of interfaces modules i m p) ≡ true = ap is_none nothing in
       cc
+
+main_few : (o : Offered) → Some main_offered ≡ Some o → field_count o.arguments ≤ most_parts
+main_few o is = subst (λ (x : Offered). field_count x.arguments ≤ most_parts) (same_Some main_offered o is) (omega arith)
 
 -- ---- procedures of an interface
 
@@ -155,14 +170,15 @@ some_found None = ([], refl)
 some_found (Some f) = (f ∷ [], refl)
 
 -- a procedure behind which no fault is kept
-pub record IsClean (interfaces : List Interface) (modules : List ModuleTree) (i : ℕ) (m : ModuleTree) (best : Option (Fault CheckCause)) (names : List ℕ → Bool) (p : ProcedureOf StatementTree) : Type 0 where
+pub record IsClean (interfaces : List Interface) (modules : List ModuleTree) (i : ℕ) (m : ModuleTree) (best : Option (Fault CheckCause)) (parts : ℕ) (names : List ℕ → Bool) (p : ProcedureOf StatementTree) : Type 0 where
   pub nothing : best ≡ None
   pub offers : is_none (offer_of interfaces modules i m p) ≡ false
   pub new : names p.name.name ≡ false
+  pub few : parts ≤ most_parts → variables_parts written_out (forms interfaces modules i m) parts p.body.variables ≤ most_parts
 
 pub clean_is : (interfaces : List Interface) (modules : List ModuleTree) (i : ℕ) (m : ModuleTree) (best after : Option (Fault CheckCause)) (parts : ℕ) (names : List ℕ → Bool) (p : ProcedureOf StatementTree) → parts ≤ 1 + most_parts
     → ((found : Faults) (before : ℕ) → best ≡ least_from rank None found → parts ≡ min before (1 + most_parts) → after ≡ least_from rank best (whole_procedure interfaces modules i m found before names p))
-    → after ≡ None → IsClean interfaces modules i m best names p
+    → after ≡ None → IsClean interfaces modules i m best parts names p
 clean_is interfaces modules i m best after parts names p small finds none =
     let (found, is) = some_found best in
     let full : parts ≡ min parts (1 + most_parts) = omega arith in
@@ -172,7 +188,25 @@ clean_is interfaces modules i m best after parts names p small finds none =
       nothing = kept_none (whole_procedure interfaces modules i m found parts names p) best (sym (finds found parts is full) ∙ none);
       offers = offered_clean interfaces modules i m parts names p clean;
       new = new_clean interfaces modules i m parts names p clean;
+      few = locals_few interfaces modules i m parts names p clean;
     }
+
+-- its variables stand among the parts
+pub few_more : (forms : TypeName → ShapeTree) (state parts parts' : ℕ) (vs : List VariableTree) → AreFew state parts → variables_parts written_out forms parts vs ≤ most_parts → parts' ≡ min (variables_parts written_out forms parts vs) (1 + most_parts) → AreFew state parts'
+few_more forms state parts parts' vs are few is = (omega (arith, are.0, few, is, as_many_variables forms parts vs), omega (arith, few, is))
+
+-- what is offered takes few arguments
+pub offered_few : (interfaces : List Interface) → AllByRecursion Obeys interfaces → (interface : Option Named) (name : List ℕ) (o : Offered) → offered_here (implemented_by interfaces interface) name ≡ Some o → field_count o.arguments ≤ most_parts
+offered_few interfaces obey None name o is = main_few o is
+offered_few interfaces obey (Some i) name o is = by_interface (interface_called interfaces i) refl is
+  where
+    among : (k : Interface) → Obeys k → (None ≡ Some o) ⊎ ((p : Procedure) × Contains k.procedures p × (offered_by k p ≡ o)) → field_count o.arguments ≤ most_parts
+    among k obeys (inl none) = absurd (cc)
+    among k obeys (inr (p, there, same)) = subst (λ (x : Offered). field_count x.arguments ≤ most_parts) same (omega (arith, (arguments_obey k obeys p there).few, field_count_is p.arguments))
+
+    by_interface : (k : Option Interface) → interface_called interfaces i ≡ k → offered_here k name ≡ Some o → field_count o.arguments ≤ most_parts
+    by_interface None called is = main_few o is
+    by_interface (Some k) called is = among k (called_obeys interfaces obey i k called) (procedure_declared k k.procedures (λ _. None) name o is)
 
 -- the names of procedures with one more
 pub has_more : (ps : List (ProcedureOf StatementTree)) (p : ProcedureOf StatementTree) (name : List ℕ) → has_procedure (ps ++ p ∷ []) name ≡ (bytes_eq p.name.name name || has_procedure ps name)

@@ -8,7 +8,8 @@ use denote.Ref.{Bor}
 use Rattle.circus_value.specs.ShapeTree.{FieldTrees, no_fields, more_fields}
 use Rattle.circus_resolve.specs.Scope.{Variable}
 use Rattle.circus_idl.specs.Meaning.{standing_for}
-use Rattle.circus_check.specs.Scope.{variables_behind, places_behind}
+use Rattle.circus_check.specs.Scope.{places_behind}
+use Rattle.circus_check.specs.Seen.Surroundings.{variables_kept}
 
 -- the table n is m with this entry at the name
 abbrev pub Puts : {V : Type 0} → List ℕ → BTreeMap (Bor (List ℕ)) V → BTreeMap (Bor (List ℕ)) V → V → Type 0
@@ -27,10 +28,10 @@ put_by {V} {A} read bs m n v puts = λ i other. each other i
     each other = ap read (btree_map_updates_str bs m n (Some v) puts other) ∙ more (bytes_eq bs other) (get_by (λ k. slice_cmp nat_cmp other k.now) m)
 
 -- a place that stops at the greatest word gives the same variables
-pub same_variables : (n k : ℕ) → min n 65535 ≡ min k 65535 → (fs : FieldTrees) (earlier : List ℕ → Option Variable) → variables_behind n fs earlier ≡ variables_behind k fs earlier
+pub same_variables : (n k : ℕ) → min n 65535 ≡ min k 65535 → (fs : FieldTrees) (earlier : List ℕ → Option Variable) → variables_kept n fs earlier ≡ variables_kept k fs earlier
 same_variables n k is no_fields earlier = refl
 same_variables n k is (more_fields name s fs) earlier =
-    ap (λ p. variables_behind (n + 1) fs (standing_for name (Some (record { place = p; shape = s })) earlier)) is
+    ap (λ p. variables_kept (n + 1) fs (standing_for name (Some (record { place = p; shape = s })) earlier)) is
     ∙ same_variables (n + 1) (k + 1) (omega (arith, is)) fs (standing_for name (Some (record { place = min k 65535; shape = s })) earlier)
 
 pub same_places : (n k : ℕ) → min n 65535 ≡ min k 65535 → (fs : FieldTrees) → min (places_behind n fs) 65535 ≡ min (places_behind k fs) 65535

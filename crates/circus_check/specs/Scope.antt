@@ -1,5 +1,5 @@
 -- What the names in a module stand for: types, variables, procedures and errors.
-use Rattle.std.specs.Prelude.{ℕ, ◌+◌, min, cond, bytes_eq, List, [], ◌∷◌, Option, Some, None, slice_get}
+use Rattle.std.specs.Prelude.{ℕ, ◌+◌, cond, bytes_eq, List, [], ◌∷◌, Option, Some, None, slice_get}
 use Rattle.circus_value.specs.ShapeTree.{ShapeTree, FieldTrees, boolean, field_trees, no_fields, more_fields}
 use Rattle.circus_value.specs.ShapeOf.{tree_of}
 use Rattle.circus_value.specs.Among.{is_among}
@@ -76,12 +76,11 @@ shape_or _ = boolean
 
 -- ---- variables
 
--- fields as variables, the first of which has a place, behind others; a place is a word, since no more variables than that
--- stand in a procedure in which no rule is broken
+-- fields as variables, the first of which has a place, behind others
 abbrev pub variables_behind : ℕ → FieldTrees → (List ℕ → Option Variable) → List ℕ → Option Variable
 variables_behind n no_fields earlier = earlier
 variables_behind n (more_fields name s fs) earlier =
-    variables_behind (n + 1) fs (standing_for name (Some (record { place = min n 65535; shape = s })) earlier)
+    variables_behind (n + 1) fs (standing_for name (Some (record { place = n; shape = s })) earlier)
 
 -- how many fields there are
 abbrev pub places_behind : ℕ → FieldTrees → ℕ

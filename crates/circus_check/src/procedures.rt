@@ -22,7 +22,7 @@ ghost use Rattle.circus_check.specs.Seen.Programs.{IsProgram, IsOwn, modules_in,
 ghost use Rattle.circus_check.specs.Seen.Tables.{those_there, unless_kept};
 ghost use Rattle.circus_check.specs.Seen.Contexts.{context_with};
 ghost use Rattle.circus_check.specs.Seen.Scoped.{form_in};
-ghost use Rattle.circus_check.specs.Seen.Surroundings.{IsAround, context_around, place_for, count_for};
+ghost use Rattle.circus_check.specs.Seen.Surroundings.{AreFew, IsAround, context_around, place_for, count_for};
 
 use crate::checked::{CheckedBodies, CheckedBody};
 use crate::module::{Own, Program, also_fields};
@@ -217,6 +217,9 @@ fn body<'s>(
         (module_of own.now.text.now).variables)) around.now) }
     requires in_range { IfNone best.old.fault
         (AreVariablesInRange (procedure_of text.now).body.variables) }
+    requires few { IfNone best.old.fault
+        (length own.now.text.now.variables + length offers.now.arguments.now
+        + length text.now.variables ≤ 65535) }
     requires offers { Some (offered_as offers.now)
         ≡ faults.offer_of (interfaces_in program.now) (modules_in program.now) own.now.number
         (module_of own.now.text.now) (procedure_of text.now) }
@@ -262,6 +265,7 @@ fn procedure<'p, 's>(
         (field_trees (faults.fields_of (form_in own.now.types)
         (module_of own.now.text.now).variables)) around.now) }
     requires small { parts.old ≤ 1 + most_parts }
+    requires few { IfNone best.old.fault (AreFew (length own.now.text.now.variables) parts.old) }
     ensures found { OnOk result
         ((found : Faults) (before : ℕ) → best.old.fault ≡ least_from rank None found
         → parts.old ≡ min before (1 + most_parts)
@@ -363,6 +367,7 @@ pub fn check_procedures<'p, 's>(
         (state.now ≡ faults.fields_of (form_in own.now.types)
         (module_of own.now.text.now).variables) }
     requires small { parts.old ≤ 1 + most_parts }
+    requires few { IfNone best.old.fault (AreFew (length own.now.text.now.variables) parts.old) }
     ensures found { OnOk result
         ((found : Faults) (so_far : ℕ) → best.old.fault ≡ least_from rank None found
         → parts.old ≡ min so_far (1 + most_parts)

@@ -9,10 +9,10 @@ ghost use Rattle.circus_body.specs.Seen.Named.{called_or};
 ghost use Rattle.circus_lang.specs.ModuleTree.{module_of};
 ghost use Rattle.circus_limits.specs.Limits.{most_modules};
 ghost use Rattle.circus_check.specs.Naming.{import_of};
-ghost use Rattle.circus_check.specs.Scope.{variables_behind, places_behind, import_named, called_by};
+ghost use Rattle.circus_check.specs.Scope.{places_behind, import_named, called_by};
 ghost use Rattle.circus_check.specs.Seen.Programs.{IsOwn, IsImported, modules_in, interfaces_in, types_in, types_had, types_now};
 ghost use Rattle.circus_check.specs.Seen.Scoped.{interface_in};
-ghost use Rattle.circus_check.specs.Seen.Surroundings.{IsAround, own_variables, number_or, procedures_now};
+ghost use Rattle.circus_check.specs.Seen.Surroundings.{variables_kept, IsAround, own_variables, number_or, procedures_now};
 
 use crate::known::Known;
 use crate::module::{Own, Program};
@@ -42,7 +42,7 @@ fn put<'v>(
 ) -> Result<u16, NoMemory>
     ensures added { OnOk result
         (variable_in variables.new
-        ≡ variables_behind behind (field_trees fields.now) (variable_in variables.old)) }
+        ≡ variables_kept behind (field_trees fields.now) (variable_in variables.old)) }
     ensures places { IfOk result (λ place.
         place ≡ min (places_behind behind (field_trees fields.now)) 65535) }
 {

@@ -7,8 +7,10 @@ use Rattle.circus_check.specs.InRange.{AreVariablesInRange}
 use Rattle.circus_check.specs.Faults.{forms, variables_parts, procedures_faults, head_faults, fields_of}
 use Rattle.circus_check.specs.Seen.Programs.{modules_in, interfaces_in}
 use Rattle.circus_check.specs.Seen.Scoped.{form_in}
-use Rattle.circus_check.proofs.ModulesFound.{state_in_range, head_then, as_found, nothing_found, where_none, if_none}
+use Rattle.circus_check.proofs.ModulesFound.{state_in_range, state_few, head_then, as_found, nothing_found, where_none, if_none}
 use Rattle.circus_check.proofs.OwnTables.{forms_are}
+use Rattle.circus_check.proofs.CleanVariables.{as_many_variables}
+use Rattle.std.proofs.lemmas.List.{length-map}
 use Rattle.circus_check.proofs.checking.module.Goals as goal
 use Rattle.circus_check.proofs.checking.module.Goals.{in-None+in_ok-variables-in-None, in-Some}
 
@@ -59,3 +61,17 @@ fields-requires c =
     let head = head_faults interfaces modules own.number m in
     let clean = (nothing_found c.args.best.now.fault head (sym c.in_ok-check_head.ensures.found ∙ c.in-None.is)).1 in
     subst (λ vs. AreVariablesInRange (map variable_of vs)) (sym c.as_slice.ensures) (state_in_range interfaces modules own.number m clean)
+
+pub check_procedures-requires-clause-few : goal.check_procedures-requires-clause-few
+check_procedures-requires-clause-few c =
+    let own = c.args.own.now in
+    let interfaces = interfaces_in c.args.program.now in
+    let modules = modules_in c.args.program.now in
+    let m = module_of own.text.now in
+    let head = head_faults interfaces modules own.number m in
+    let best = c.check_head.new.best.fault in
+    let counted = c.in_ok-check_head.ensures.counted ∙ ap (λ f. min (variables_parts written_out f 0 m.variables) (1 + most_parts)) (forms_are c.args.program.now own c.requires.own) in
+    if_none best _ (λ none.
+    let clean = (nothing_found c.args.best.now.fault head (sym c.in_ok-check_head.ensures.found ∙ none)).1 in
+    let few = state_few interfaces modules own.number m clean in
+    (omega (arith, counted, few, as_many_variables (forms interfaces modules own.number m) 0 m.variables, length-map own.text.now.variables variable_of), omega (arith, counted, few)))

@@ -1,4 +1,5 @@
-use Rattle.std.proofs.Common.{◌≡◌, Option, Some, None, refl, sym, subst, ◌∙◌, ap, map, is_some, true, false}
+use Rattle.std.proofs.Common.{◌≡◌, Option, Some, None, refl, ◌+◌, ◌≤◌, length, sym, subst, ◌∙◌, ap, arith, map, is_some, true, false}
+use Rattle.std.proofs.lemmas.List.{length-map}
 use Rattle.circus_statement.specs.StatementTree.{statement_trees}
 use Rattle.circus_fault.specs.declared.fault.Fault.{Fault}
 use Rattle.circus_fault.specs.Least.{least_from}
@@ -46,7 +47,10 @@ returns-clause-found c =
     let text = c.args.text.now in
     let none = none_is best (sym c.is_some.ensures ∙ c.if-is_some.false) in
     let locals = c.in_ok-locals.ensures ∙ ap (λ vs. fields_of (form_in own.types) (map variable_of vs)) c.as_slice.ensures in
-    let same = body_context c.args.program.now own c.args.around.now c.args.offers.now c.in_ok-locals.locals (procedure_of text) c.requires.own (of_none best _ c.requires.around none) c.requires.offers locals in
+    let few = of_none best _ c.requires.few none in
+    let counted : length (module_of own.text.now).variables + length c.args.offers.now.arguments.now + length (procedure_of text).body.variables ≤ 65535 =
+    omega (arith, few, length-map own.text.now.variables variable_of, length-map text.variables variable_of) in
+    let same = body_context c.args.program.now own c.args.around.now c.args.offers.now c.in_ok-locals.locals (procedure_of text) c.requires.own (of_none best _ c.requires.around none) c.requires.offers locals counted in
     c.in_ok-made.ensures.found ∙ ap (λ names. least_from rank best (all_faults names (statement_trees text.statements))) same
     ∙ ap (λ k. least_from rank best (unless_kept k (body_faults interfaces modules own.number (module_of own.text.now) (procedure_of text)))) (sym none)
 
@@ -57,7 +61,10 @@ returns-clause-meant c =
     let text = c.args.text.now in
     let none = none_is best (sym c.is_some.ensures ∙ c.if-is_some.false) in
     let locals = c.in_ok-locals.ensures ∙ ap (λ vs. fields_of (form_in own.types) (map variable_of vs)) c.as_slice.ensures in
-    let same = body_context c.args.program.now own c.args.around.now c.args.offers.now c.in_ok-locals.locals (procedure_of text) c.requires.own (of_none best _ c.requires.around none) c.requires.offers locals in
+    let few = of_none best _ c.requires.few none in
+    let counted : length (module_of own.text.now).variables + length c.args.offers.now.arguments.now + length (procedure_of text).body.variables ≤ 65535 =
+    omega (arith, few, length-map own.text.now.variables variable_of, length-map text.variables variable_of) in
+    let same = body_context c.args.program.now own c.args.around.now c.args.offers.now c.in_ok-locals.locals (procedure_of text) c.requires.own (of_none best _ c.requires.around none) c.requires.offers locals counted in
     let written = locals ∙ ap (λ f. fields_of f (map variable_of text.variables)) (forms_are c.args.program.now own c.requires.own) in
     let made = c.in_ok-made.ensures.meant ∙ ap (λ names. all_do names (statement_trees text.statements)) same in
     let meant : BodyMeant → Option BodyMeant = λ b. Some b in

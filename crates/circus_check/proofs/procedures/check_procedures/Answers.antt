@@ -14,14 +14,14 @@ use Rattle.circus_resolve.specs.declared.cause.CheckCause.{CheckCause}
 use Rattle.circus_resolve.specs.Causes.{rank}
 use Rattle.circus_resolve.specs.Faults.{Faults}
 use Rattle.circus_lang.specs.ModuleTree.{module_of, procedure_of, variable_of}
-use Rattle.circus_check.specs.Faults.{has_procedure, also_variables, variables_parts, procedures_faults}
+use Rattle.circus_check.specs.Faults.{forms, has_procedure, also_variables, variables_parts, procedures_faults}
 use Rattle.circus_check.specs.Meaning.{body_meant}
 use Rattle.circus_check.specs.Scope.{implemented_by}
 use Rattle.circus_check.specs.Seen.Meant.{body_as}
 use Rattle.circus_check.specs.Seen.Programs.{modules_in, interfaces_in, list_now}
 use Rattle.circus_check.proofs.BodiesPlaced.{AreApart, IsThere, bodies_more, bodies_all, none_placed, in_place}
 use Rattle.circus_check.proofs.OwnTables.{forms_are}
-use Rattle.circus_check.proofs.ProceduresFound.{IsFound, found_more, clean_is, has_more, there_is, apart_is, of_none, if_none_by, in_place_is, found_end}
+use Rattle.circus_check.proofs.ProceduresFound.{IsFound, found_more, few_more, clean_is, has_more, there_is, apart_is, of_none, if_none_by, in_place_is, found_end}
 use Rattle.circus_check.specs.Seen.Surroundings.{count_for}
 use Rattle.circus_check.proofs.VariablesFound.{none_held, on_any}
 use Rattle.circus_check.proofs.procedures.check_procedures.Goals as goal
@@ -55,6 +55,12 @@ loop-written-preserved c =
           (λ parts is. c.in_ok-body.ensures.counted parts is ∙ ap (λ f. min (variables_parts written_out f parts p.body.variables) (1 + most_parts)) (forms_are c.args.program.now own c.requires.own))
           c.in_ok-body.ensures.added;
       kept = λ none. old.invariant.kept (clean none).nothing;
+      few = if_none_by new.best.fault (λ none.
+          let is = clean none in
+          let are = of_none old.best.fault _ old.invariant.few is.nothing in
+          let full : old.parts ≡ min old.parts (1 + most_parts) = omega (arith, old.invariant.small) in
+          few_more (forms interfaces modules own.number m) (length own.text.now.variables) old.parts new.parts p.body.variables are (is.few are.1)
+          (c.in_ok-body.ensures.counted old.parts full ∙ ap (λ f. min (variables_parts written_out f old.parts p.body.variables) (1 + most_parts)) (forms_are c.args.program.now own c.requires.own)));
       small = (let full : old.parts ≡ min old.parts (1 + most_parts) = omega (arith, old.invariant.small) in omega (arith, c.in_ok-body.ensures.counted old.parts full));
       names = λ name.
           ap (λ (f : List ℕ → Bool). f name) c.in_ok-body.ensures.added
@@ -92,6 +98,7 @@ loop-written-init c =
       };
       kept = λ is. is;
       small = c.requires.small;
+      few = c.requires.few;
       names = λ name. ap (λ (f : List ℕ → Bool). f name) none;
       state = c.in_ok-state_names.ensures ∙ ap (λ vs. also_variables (map variable_of vs) no_name) c.as_slice.ensures;
       bodies = λ is.

@@ -1,4 +1,5 @@
-use Rattle.std.proofs.Common.{◌≡◌, ℕ, ◌+◌, ◌≤◌, List, None, drop, take, map, min, option_map}
+use Rattle.std.proofs.Common.{◌≡◌, ℕ, ◌+◌, ◌≤◌, List, None, length, drop, take, map, min, option_map}
+use Rattle.std.specs.Prelude.{IfNone}
 use Rattle.circus_fault.specs.Least.{least_from}
 use Rattle.circus_fault.specs.Seen.Tables.{holds_name}
 use Rattle.circus_type.specs.Inside.{no_name}
@@ -9,6 +10,7 @@ use Rattle.circus_lang.specs.ModuleTree.{module_of, procedure_of, variable_of}
 use Rattle.circus_check.specs.Faults.{has_procedure, also_variables, procedures_faults}
 use Rattle.circus_check.specs.Meaning.{body_meant}
 use Rattle.circus_check.specs.Seen.Meant.{body_as}
+use Rattle.circus_check.specs.Seen.Surroundings.{AreFew}
 use Rattle.circus_check.specs.Seen.Programs.{modules_in, interfaces_in, list_now}
 use Rattle.circus_check.proofs.BodiesPlaced.{placed}
 use Rattle.circus_check.proofs.ProceduresFound.{IsFound}
@@ -27,6 +29,7 @@ invariant-loop-written l =
           (least_from rank l.fn.best.fault (procedures_faults interfaces modules l.own.number m found before no_name ps));
       kept : l.best.fault ≡ None → l.fn.best.fault ≡ None;
       small : l.parts ≤ 1 + most_parts;
+      few : IfNone l.best.fault (AreFew (length l.own.text.now.variables) l.parts);
       names : (name : List ℕ) → holds_name l.so_far.procedures name ≡ has_procedure (map procedure_of (take l.written l.text-items)) name;
       state : holds_name l.so_far.state ≡ also_variables (map variable_of l.own.text.now.variables) no_name;
       bodies : l.best.fault ≡ None → map (option_map body_as) l.slots.items ≡ map (option_map (body_meant interfaces modules l.own.number m)) (placed (list_now l.own.order) l.written (map procedure_of l.text-items));
