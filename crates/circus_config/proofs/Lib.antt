@@ -5,6 +5,7 @@ mod Stopped
 mod Rules
 mod Looked
 mod ReadIs
+mod OneStop
 pub mod OneAnswer
 mod Ascii
 mod Checked

@@ -115,6 +115,13 @@ IsReadOf ts end None w = Are spelling_program IsProgram ts w × AreWithin most_l
 IsReadOf ts end (Some s) w =
     (left : List Placed) × IsFilledIn spelling_program IsProgram most_levels ts left s.place w × (s.place ≡ place_in left end) × IsStopOf s.cause ts left
 
+-- two stops are in one place, for one cause
+abbrev pub IsSameStop : Option Stop → Option Stop → Type 0
+IsSameStop None None = Unit {0}
+IsSameStop None (Some t) = ⊥
+IsSameStop (Some s) None = ⊥
+IsSameStop (Some s) (Some t) = (s.place ≡ t.place) × (s.cause ≡ t.cause)
+
 -- the answer to faults: the line and the cause of the least of them
 abbrev pub IsAnswerTo : List ℕ → List (Fault ProgramCause) → ProgramFault → Type 0
 IsAnswerTo text faults answer =

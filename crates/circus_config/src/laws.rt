@@ -1,12 +1,15 @@
 // What holds of every file.
-ghost use Rattle.std.specs.Prelude.{◌≡◌, ℕ, List, None, Some};
+ghost use Rattle.std.specs.Prelude.{◌≡◌, ℕ, List, Option, None, Some};
+ghost use Rattle.circus_syntax.specs.declared.stopping.Stop.{Stop};
+ghost use Rattle.circus_syntax.specs.Placed.{Placed};
 ghost use Rattle.circus_fault.specs.declared.fault.Fault.{Fault};
 ghost use Rattle.circus_fault.specs.Least.{IsLeast, least_from};
+ghost use Rattle.circus_file.specs.WrittenProgram.{WrittenProgram};
 ghost use Rattle.circus_config.specs.declared.plan.Plan.{Plan};
 ghost use Rattle.circus_config.specs.declared.program_fault.ProgramCause.{ProgramCause};
 ghost use Rattle.circus_config.specs.declared.program_fault.ProgramFault.{ProgramFault};
 ghost use Rattle.circus_config.specs.Rank.{rank_of};
-ghost use Rattle.circus_config.specs.Program.{IsProgramOf, SaysSame, IsRefused};
+ghost use Rattle.circus_config.specs.Program.{IsReadOf, IsSameStop, IsProgramOf, SaysSame, IsRefused};
 
 /// A file means one program, or is refused with one line and one cause, and not both.
 pub fn one_answer()
@@ -16,6 +19,13 @@ pub fn one_answer()
         → IsRefused text other → one ≡ other }
     ensures either { (text : List ℕ) (plan : Plan) (refusal : ProgramFault) → IsProgramOf text plan
         → IsRefused text refusal → ⊥ }
+{}
+
+/// Tokens are a program, or reading them stops in one place and for one cause, and not both: by the grammar alone, whatever
+/// tree is taken of those that the tokens begin.
+pub fn one_stop()
+    ensures { (ts : List Placed) (end : ℕ) (one other : Option Stop) (w v : WrittenProgram)
+        → IsReadOf ts end one w → IsReadOf ts end other v → IsSameStop one other }
 {}
 
 /// The fault that is answered is one of all, and none of them is before it.
