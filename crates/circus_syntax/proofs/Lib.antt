@@ -20,3 +20,10 @@ pub mod TextRead
 pub mod Loops
 pub mod ByWord
 pub mod ByLine
+mod Twice
+mod TwiceTypes
+mod TwiceInterfaces
+mod Fills
+mod FillTypes
+mod FillInterfaces
+mod OneFilling

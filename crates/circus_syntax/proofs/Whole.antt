@@ -13,6 +13,7 @@ use Rattle.circus_syntax.specs.Stopping.{NoneIsWhole, IsUnexpected, IsTooDeep, I
 use Rattle.circus_syntax.proofs.Sound.{Ran, reader, ran_is, EndsAt}
 use Rattle.circus_syntax.proofs.Interfaces.{IsInterfaceWithin, sound_interface, complete_interface}
 use Rattle.circus_syntax.proofs.CutInterfaces.{cut_interface}
+use Rattle.circus_syntax.proofs.FillInterfaces.{interface_filled}
 use Rattle.circus_syntax.proofs.Widens.{Wider, WiderBy}
 use Rattle.circus_syntax.proofs.InterfaceLevels.{widens_interface}
 
@@ -91,6 +92,7 @@ interface_filled_in ts left tree s e tokens is =
       interface = subst (IsInterface (R.taken ++ R.more)) tree_is begun;
       within = subst (IsWithin most_levels) tree_is within;
       there = (ended_at ts e R s stop_is).1;
+      filled = interface_filled most_levels ts R.taken left tree s e is (R.whole ∙ ap (λ l. R.taken ++ l) left_is);
       cut = cut_interface most_levels ts R.taken left tree s e is (R.whole ∙ ap (λ l. R.taken ++ l) left_is);
     }
 

@@ -7,6 +7,7 @@ pub mod Reader
 pub mod Reading
 pub mod Spelling
 pub mod Standing
+pub mod Filling
 pub mod Stopping
 pub mod Read
 pub mod Seen

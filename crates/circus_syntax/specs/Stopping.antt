@@ -5,6 +5,7 @@ use Rattle.circus_syntax.specs.InterfaceTree.{InterfaceTree}
 use Rattle.circus_syntax.specs.Placed.{Placed}
 use Rattle.circus_syntax.specs.Spelling.{IsInterface, IsWithin, most_levels, Begins, BeginsWithin}
 use Rattle.circus_syntax.specs.Standing.{standings_of_interface}
+use Rattle.circus_syntax.specs.Filling.{AllBehind, as_interface}
 
 -- no interface is read whole
 abbrev pub NoneIsWhole : List Placed → Type 0
@@ -35,8 +36,8 @@ abbrev pub StandAt : ℕ → List Placed → Type 0
 StandAt at [] = Unit {0}
 StandAt at (t ∷ ts) = (t.start ≡ at) × StandAt at ts
 
--- the tree is that of an interface which the tokens in front of what is left begin; what it has besides them stands at
--- the place of the stop, which is marked with the type and the list that the first of it stands in
+-- the tree is that of an interface which the tokens in front of what is left begin; what it has besides them is filled in, and
+-- stands at the place of the stop, which is marked with the type and the list that the first of it stands in
 pub record IsFilledIn (ts left : List Placed) (stop : Stop) (tree : InterfaceTree) : Type 0 where
   pub read : List Placed
   pub more : List Placed
@@ -44,4 +45,5 @@ pub record IsFilledIn (ts left : List Placed) (stop : Stop) (tree : InterfaceTre
   pub interface : IsInterface (read ++ more) tree
   pub within : IsWithin most_levels tree
   pub there : StandAt stop.place more
+  pub filled : AllBehind read (as_interface tree)
   pub cut : slice_get (standings_of_interface tree) (length read) ≡ Some (record { within = stop.within; list = stop.list })

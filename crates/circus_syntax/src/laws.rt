@@ -70,3 +70,10 @@ pub fn a_stop_is_filled_in()
         ≡ (tree, record { rest = left; end = end; stop = Some stop })
         → IsFilledIn all left stop tree }
 {}
+
+/// Tokens that are left in one place are filled in to one interface alone, and the stop is marked in one way.
+pub fn one_filling()
+    ensures { (ts left : List Placed) (one other : Stop) (tree same : InterfaceTree)
+        → IsFilledIn ts left one tree → IsFilledIn ts left other same → one.place ≡ other.place
+        → (tree ≡ same) × (one.within ≡ other.within) × (one.list ≡ other.list) }
+{}

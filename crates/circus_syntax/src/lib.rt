@@ -20,7 +20,7 @@ use circus_value::ListOf;
 pub use interface_reading::{MOST_LEVELS, Read, read_interface_text};
 pub use interface_text::{DeclaredText, ErrorText, FieldsText, InterfaceText, ProcedureText};
 pub use laws::{
-    a_stop_is_filled_in, interfaces_are_read, one_interface, read_is_an_interface,
+    a_stop_is_filled_in, interfaces_are_read, one_filling, one_interface, read_is_an_interface,
     stops_at_the_too_deep, stops_at_the_unexpected, text_has_tokens,
 };
 pub use named::{LabelText, Named, Numeral, TypeName};
