@@ -3,19 +3,20 @@ use Rattle.std.proofs.Common.{◌≡◌, ℕ, Bool, true, false, List, [], ◌�
 use Rattle.std.specs.Prelude.{Some, None, codes, if◌then◌else◌}
 use Rattle.std.proofs.lemmas.List.{append_cancel_right}
 use Rattle.circus_syntax.specs.declared.named.Named.{Named}
+use Rattle.std.specs.List.{flat_map}
 use Rattle.circus_syntax.specs.declared.interface_text.FieldsText.{FieldsText}
 use Rattle.circus_syntax.specs.declared.stopping.Stop.{Stop}
 use Rattle.circus_syntax.specs.InterfaceTree.{InterfaceTree}
 use Rattle.circus_syntax.specs.Placed.{Placed, first, is_lexeme, is_name, word, sign}
 use Rattle.circus_syntax.specs.Reader.{passes, both}
-use Rattle.circus_syntax.specs.Reading.{expect_token, names, stop_in_list, fields, groups, arguments, results, error_names, reports, number_at_end, a_type_behind, an_error_behind, a_procedure_behind, declared_of_parts, Declaring, of_type, of_error, of_procedure, declared_start, parts_behind, one_declaration, heading, declarations, interface_of_parts, interface}
+use Rattle.circus_syntax.specs.Reading.{expect_token, names, stop_in_list, fields, groups, arguments, results, error_names, reports, number_at_end, a_type_behind, an_error_behind, a_procedure_behind, declared_of_parts, Declaring, of_type, of_error, of_procedure, declared_start, parts_behind, one_declaration, heading, declarations, interface_of_parts, interface, number}
 use Rattle.circus_syntax.proofs.Sound.{reader}
 use Rattle.circus_syntax.proofs.Types.{sound_type}
 use Rattle.circus_syntax.proofs.Interfaces.{shrinks_declared}
-use Rattle.circus_syntax.specs.Filling.{AllBehind, as_names, as_fields, as_arguments, as_results, as_reports, as_numbered, as_declared, as_interface}
+use Rattle.circus_syntax.specs.Filling.{AllBehind, as_names, as_fields, as_arguments, as_results, as_reports, as_numbered, as_declared, as_name, as_interface, as_further}
 use Rattle.circus_syntax.proofs.Twice.{twice_repeated}
 use Rattle.circus_syntax.proofs.TwiceTypes.{twice_type}
-use Rattle.circus_syntax.proofs.TwiceInterfaces.{as_parts, declared_so, as_heading, twice_parts, twice_declared, never_declared}
+use Rattle.circus_syntax.proofs.TwiceInterfaces.{as_parts, declared_so, as_numbers, twice_parts, twice_declared, never_declared}
 use Rattle.circus_syntax.proofs.Fills.{Fills, FillsAt, Of, at_then, at_mapped, at_fixed, at_fixed_at, at_name, at_behind, at_marked, fills_both, fills_mapped, fills_fixed, fills_fixed_at, fills_name, fills_number, fills_cased, fills_marked, fills_repeated, fills_optional, still_fixed, still_behind}
 use Rattle.circus_syntax.proofs.FillTypes.{fills_names, fills_type, fills_closed}
 
@@ -112,20 +113,33 @@ declared_at n ts hit =
     (fills_both (fills_fixed (sign (codes ":")))
     (fills_cased declared_start (parts_behind n) (λ k. (twice_parts 0 n k).stays) (fills_type_parts n).stopped (λ us. parts_at n (declared_start (first us)) us (declares us)))))
 
-fills_heading : Fills heading as_heading
+fills_numbers : Fills (both (expect_token (sign (codes ":"))) (both (expect_token (word (codes "PROGRAM"))) (both number (both (expect_token (word (codes "VERSION"))) (both number (both (expect_token (sign (codes "="))) (expect_token (word (codes "BEGIN")))))))))
+    (λ x. as_numbers (x.1.1.0, x.1.1.1.1.0))
+fills_numbers =
+    fills_both (fills_fixed (sign (codes ":"))) (fills_both (fills_fixed (word (codes "PROGRAM"))) (fills_both fills_number
+    (fills_both (fills_fixed (word (codes "VERSION"))) (fills_both fills_number (fills_both (fills_fixed (sign (codes "="))) (fills_fixed (word (codes "BEGIN"))))))))
+
+fills_heading : Fills heading (λ x. as_name x.0 ++ as_numbers x.1)
 unfolding heading
-fills_heading =
-    fills_mapped (λ x. (x.0, (x.1.1.1.0, x.1.1.1.1.1.0))) as_heading (λ x. refl)
-    (fills_both fills_name (fills_both (fills_fixed (sign (codes ":"))) (fills_both (fills_fixed (word (codes "PROGRAM"))) (fills_both fills_number
-    (fills_both (fills_fixed (word (codes "VERSION"))) (fills_both fills_number (fills_both (fills_fixed (sign (codes "="))) (fills_fixed (word (codes "BEGIN"))))))))))
+fills_heading = fills_mapped (λ x. (x.0, (x.1.1.1.0, x.1.1.1.1.1.0))) (λ x. as_name x.0 ++ as_numbers x.1) (λ x. refl) (fills_both fills_name fills_numbers)
+
+heading_at : (ts : List Placed) → passes is_name (first ts) ≡ true → FillsAt heading (λ x. false ∷ as_numbers x.1) ts
+unfolding heading
+heading_at ts hit = at_mapped (λ x. (x.0, (x.1.1.1.0, x.1.1.1.1.1.0))) (λ x. false ∷ as_numbers x.1) (λ x. refl) ts (at_then fills_name.stays ts (at_name false ts hit) fills_numbers)
+
+fills_body : (n : ℕ) → Fills (both (declarations n) (both (expect_token (word (codes "END"))) (expect_token (sign (codes "."))))) (λ x. flat_map as_declared x.0 ++ true ∷ true ∷ [])
+unfolding declarations
+fills_body n =
+    fills_both (fills_repeated is_name (shrinks_declared n) (twice_declared 0 n).stays (twice_repeated 0 is_name (shrinks_declared n) never_declared (twice_declared 0 n)).stays (declared_at n))
+    (fills_both (fills_fixed (word (codes "END"))) (fills_fixed (sign (codes "."))))
 
 pub fills_interface : (n : ℕ) → Fills (interface n) as_interface
-unfolding interface declarations
-fills_interface n =
-    fills_mapped interface_of_parts as_interface (λ x. refl)
-    (fills_both fills_heading
-    (fills_both (fills_repeated is_name (shrinks_declared n) (twice_declared 0 n).stays (twice_repeated 0 is_name (shrinks_declared n) never_declared (twice_declared 0 n)).stays (declared_at n))
-    (fills_both (fills_fixed (word (codes "END"))) (fills_fixed (sign (codes "."))))))
+unfolding interface
+fills_interface n = fills_mapped interface_of_parts as_interface (λ x. refl) (fills_both fills_heading (fills_body n))
+
+pub interface_at : (n : ℕ) (ts : List Placed) → passes is_name (first ts) ≡ true → FillsAt (interface n) as_further ts
+unfolding interface
+interface_at n ts hit = at_mapped interface_of_parts as_further (λ x. refl) ts (at_then fills_heading.stays ts (heading_at ts hit) (fills_body n))
 
 -- what was not read is filled in
 pub interface_filled : (n : ℕ) (ts read left : List Placed) (tree : InterfaceTree) (s : Stop) (e : ℕ) → interface n (reader None ts e) ≡ (tree, reader (Some s) left e) → ts ≡ read ++ left → AllBehind read (as_interface tree)

@@ -20,10 +20,10 @@ pub mod TextRead
 pub mod Loops
 pub mod ByWord
 pub mod ByLine
-mod Twice
-mod TwiceTypes
-mod TwiceInterfaces
-mod Fills
-mod FillTypes
-mod FillInterfaces
+pub mod Twice
+pub mod TwiceTypes
+pub mod TwiceInterfaces
+pub mod Fills
+pub mod FillTypes
+pub mod FillInterfaces
 mod OneFilling

@@ -7,10 +7,12 @@ use Rattle.circus_syntax.specs.declared.interface_text.FieldsText.{FieldsText}
 use Rattle.circus_syntax.specs.TypeTree.{boolean}
 use Rattle.circus_syntax.specs.InterfaceTree.{DeclaredTree, a_type, an_error, a_procedure, InterfaceTree}
 use Rattle.circus_syntax.specs.Placed.{is_lexeme, is_name, word, sign}
-use Rattle.circus_syntax.specs.Reading.{filled_name, filled_numeral, stop_in_list, fields, groups, arguments, results, error_names, reports, number_at_end, a_type_behind, an_error_behind, a_procedure_behind, Parts, declared_of_parts, Declaring, of_type, of_error, of_procedure, declared_start, parts_behind, one_declaration, heading, declarations, interface_of_parts, interface}
+use Rattle.std.specs.List.{flat_map}
+use Rattle.circus_syntax.specs.Reader.{both}
+use Rattle.circus_syntax.specs.Reading.{filled_name, filled_numeral, stop_in_list, fields, groups, arguments, results, error_names, reports, number_at_end, a_type_behind, an_error_behind, a_procedure_behind, Parts, declared_of_parts, Declaring, of_type, of_error, of_procedure, declared_start, parts_behind, one_declaration, heading, declarations, interface_of_parts, interface, name, expect_token}
 use Rattle.circus_syntax.proofs.Types.{sound_type}
 use Rattle.circus_syntax.proofs.Interfaces.{shrinks_declared}
-use Rattle.circus_syntax.specs.Filling.{AllSo, as_name, as_number, as_names, as_type, as_fields, as_arguments, as_results, as_reports, as_numbered, as_declared, as_interface}
+use Rattle.circus_syntax.specs.Filling.{AllSo, as_name, as_number, as_names, as_type, as_fields, as_arguments, as_results, as_reports, as_numbered, as_declared, as_interface, as_further}
 use Rattle.circus_syntax.proofs.Twice.{Twice, twice_both, twice_mapped, twice_never, twice_cased, twice_marked, twice_repeated, twice_fixed, twice_fixed_at, twice_name, twice_number, twice_behind, twice_optional}
 use Rattle.circus_syntax.proofs.TwiceTypes.{unlike, filled_group, twice_names, twice_other_name, twice_closed_groups, twice_type}
 
@@ -82,22 +84,32 @@ twice_declared P n =
     twice_mapped P (λ x. declared_of_parts x.0 x.1.1) as_declared (λ x. declared_so x.0 x.1.1)
     (twice_both P (twice_other_name P) (twice_both P (twice_fixed P true (sign (codes ":"))) (twice_cased P declared_start (parts_behind n) (twice_parts P n))))
 
-abbrev pub as_heading : Named × (Numeral × Numeral) → List Bool
-as_heading x = as_name x.0 ++ true ∷ true ∷ (as_number x.1.0 ++ true ∷ (as_number x.1.1 ++ true ∷ true ∷ []))
+-- behind the name in a heading
+abbrev pub as_numbers : Numeral × Numeral → List Bool
+as_numbers x = true ∷ true ∷ (as_number x.0 ++ true ∷ (as_number x.1 ++ true ∷ true ∷ []))
 
-pub twice_heading : (P : ℕ) → Twice P heading as_heading (filled_name P, (filled_numeral P, filled_numeral P))
-unfolding heading
-twice_heading P =
-    twice_mapped P (λ x. (x.0, (x.1.1.1.0, x.1.1.1.1.1.0))) as_heading (λ x. refl)
-    (twice_both P (twice_name P) (twice_both P (twice_fixed P true (sign (codes ":"))) (twice_both P (twice_fixed P true (word (codes "PROGRAM"))) (twice_both P (twice_number P)
-    (twice_both P (twice_fixed P true (word (codes "VERSION"))) (twice_both P (twice_number P) (twice_both P (twice_fixed P true (sign (codes "="))) (twice_fixed P true (word (codes "BEGIN"))))))))))
+module _ (P : ℕ) (as_its_name : Named → List Bool) (N : Twice P name as_its_name (filled_name P)) where
+  twice_heading : Twice P heading (λ x. as_its_name x.0 ++ as_numbers x.1) (filled_name P, (filled_numeral P, filled_numeral P))
+  unfolding heading
+  twice_heading =
+      twice_mapped P (λ x. (x.0, (x.1.1.1.0, x.1.1.1.1.1.0))) (λ x. as_its_name x.0 ++ as_numbers x.1) (λ x. refl)
+      (twice_both P N (twice_both P (twice_fixed P true (sign (codes ":"))) (twice_both P (twice_fixed P true (word (codes "PROGRAM"))) (twice_both P (twice_number P)
+      (twice_both P (twice_fixed P true (word (codes "VERSION"))) (twice_both P (twice_number P) (twice_both P (twice_fixed P true (sign (codes "="))) (twice_fixed P true (word (codes "BEGIN"))))))))))
+
+  twice_parts_of : (n : ℕ) → Twice P (both heading (both (declarations n) (both (expect_token (word (codes "END"))) (expect_token (sign (codes "."))))))
+      (λ x. (as_its_name x.0.0 ++ as_numbers x.0.1) ++ (flat_map as_declared x.1.0 ++ true ∷ true ∷ [])) ((filled_name P, (filled_numeral P, filled_numeral P)), ([], (tt, tt)))
+  unfolding declarations
+  twice_parts_of n =
+      twice_both P twice_heading
+      (twice_both P (twice_repeated P is_name (shrinks_declared n) never_declared (twice_declared P n)) (twice_both P (twice_fixed P true (word (codes "END"))) (twice_fixed P true (sign (codes ".")))))
 
 pub filled_interface : ℕ → InterfaceTree
 filled_interface P = interface_of_parts ((filled_name P, (filled_numeral P, filled_numeral P)), ([], (tt, tt)))
 
 pub twice_interface : (P n : ℕ) → Twice P (interface n) as_interface (filled_interface P)
-unfolding interface declarations filled_interface
-twice_interface P n =
-    twice_mapped P interface_of_parts as_interface (λ x. refl)
-    (twice_both P (twice_heading P)
-    (twice_both P (twice_repeated P is_name (shrinks_declared n) never_declared (twice_declared P n)) (twice_both P (twice_fixed P true (word (codes "END"))) (twice_fixed P true (sign (codes "."))))))
+unfolding interface filled_interface
+twice_interface P n = twice_mapped P interface_of_parts as_interface (λ x. refl) (twice_parts_of P as_name (twice_name P) n)
+
+pub twice_further : (P n : ℕ) → Twice P (interface n) as_further (filled_interface P)
+unfolding interface filled_interface
+twice_further P n = twice_mapped P interface_of_parts as_further (λ x. refl) (twice_parts_of P (λ m. false ∷ []) (twice_other_name P) n)

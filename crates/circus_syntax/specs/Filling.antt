@@ -99,10 +99,18 @@ as_declared (a_type n t) = false ∷ true ∷ true ∷ true ∷ (as_type t ++ tr
 as_declared (an_error e) = false ∷ true ∷ false ∷ (as_arguments e.arguments ++ as_numbered e.number)
 as_declared (a_procedure p) = false ∷ true ∷ false ∷ (as_arguments p.arguments ++ (as_results p.results ++ (as_reports p.reports ++ as_numbered p.number)))
 
-abbrev pub as_interface : InterfaceTree → List Bool
-as_interface tree =
-    (as_name tree.name ++ true ∷ true ∷ (as_number tree.number ++ true ∷ (as_number tree.version ++ true ∷ true ∷ [])))
+-- an interface behind its name
+abbrev pub as_behind_name : InterfaceTree → List Bool
+as_behind_name tree =
+    (true ∷ true ∷ (as_number tree.number ++ true ∷ (as_number tree.version ++ true ∷ true ∷ [])))
     ++ (flat_map as_declared tree.declared ++ true ∷ true ∷ [])
+
+abbrev pub as_interface : InterfaceTree → List Bool
+as_interface tree = as_name tree.name ++ as_behind_name tree
+
+-- one that may be left out
+abbrev pub as_further : InterfaceTree → List Bool
+as_further tree = false ∷ as_behind_name tree
 
 -- all of these are
 abbrev pub AllSo : List Bool → Type 0
