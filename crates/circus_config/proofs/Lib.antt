@@ -6,6 +6,7 @@ mod Rules
 mod Looked
 mod ReadIs
 mod OneStop
+mod OneReading
 pub mod OneAnswer
 mod Ascii
 mod Checked

@@ -8,7 +8,7 @@ use Rattle.circus_syntax.specs.Placed.{Placed, Due, AreWithin, StandWithin}
 use Rattle.circus_syntax.specs.Reader.{place_in}
 use Rattle.circus_syntax.specs.Spelling.{most_levels}
 use Rattle.circus_syntax.proofs.Opened.{within_stand}
-use Rattle.circus_expression.specs.Ending.{Are, IsUnexpected, IsTooDeep, IsFilledIn}
+use Rattle.circus_expression.specs.Ending.{Are, IsFilledIn}
 use Rattle.circus_file.specs.WrittenProgram.{WrittenProgram, spelling_program, IsProgram}
 use Rattle.circus_config.specs.Program.{IsStopOf, IsReadOf, IsSameStop}
 
@@ -85,7 +85,7 @@ one_cause TooDeep Unexpected ts left one other =
     absurd (other.none_on one.next one.rest one.next_is (a, more, subst (λ (l : List Placed). Are spelling_program IsProgram ((l ++ one.next ∷ []) ++ more) a) front are))
 
 -- two stops leave the same
-same_left : (c d : StopCause) (ts left rest : List Placed) (at by : ℕ) (w v : WrittenProgram) → IsStopOf c ts left → IsStopOf d ts rest
+pub same_left : (c d : StopCause) (ts left rest : List Placed) (at by : ℕ) (w v : WrittenProgram) → IsStopOf c ts left → IsStopOf d ts rest
     → IsFilledIn spelling_program IsProgram most_levels ts left at w → IsFilledIn spelling_program IsProgram most_levels ts rest by v → left ≡ rest
 same_left c d ts left rest at by w v stop other filled also = by_fronts (fronts filled.read left also.read rest (sym filled.whole ∙ also.whole))
   where
@@ -96,9 +96,9 @@ same_left c d ts left rest at by w v stop other filled also = by_fronts (fronts 
 
 pub one_stop : (ts : List Placed) (end : ℕ) (one other : Option Stop) (w v : WrittenProgram) → IsReadOf ts end one w → IsReadOf ts end other v → IsSameStop one other
 one_stop ts end None None w v first second = tt
-one_stop ts end None (Some s) w v (are, within) (left, filled, at, stop) = not_whole s.cause ts left w stop are within
-one_stop ts end (Some s) None w v (left, filled, at, stop) (are, within) = not_whole s.cause ts left v stop are within
-one_stop ts end (Some s) (Some t) w v (left, filled, at, stop) (rest, also, by, halt) =
+one_stop ts end None (Some s) w v (are, within) (left, filled, so, at, stop) = not_whole s.cause ts left w stop are within
+one_stop ts end (Some s) None w v (left, filled, so, at, stop) (are, within) = not_whole s.cause ts left v stop are within
+one_stop ts end (Some s) (Some t) w v (left, filled, so, at, stop) (rest, also, too, by, halt) =
     let same = same_left s.cause t.cause ts left rest s.place t.place w v stop halt filled also in (
       at ∙ ap (λ (l : List Placed). place_in l end) same ∙ sym by,
       one_cause s.cause t.cause ts rest (subst (IsStopOf s.cause ts) same stop) halt,

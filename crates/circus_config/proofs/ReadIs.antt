@@ -57,6 +57,7 @@ use Rattle.circus_config.specs.Told.{module_names}
 use Rattle.circus_config.specs.Checking.{checked_faults}
 use Rattle.circus_config.specs.Reading.{interfaces_faults, read_faults}
 use Rattle.circus_config.specs.Program.{EachMeans, placed_tokens, IsFile, IsStopOf, IsReadOf, IsAnswerTo, IsProgramOf, IsRefused, format_number, HaveTheirRoots, IsPlan}
+use Rattle.circus_config.proofs.OneReading.{interfaces_filled}
 use Rattle.circus_config.proofs.Looked.{modules_in_text, same_least, none_looked}
 use Rattle.circus_config.proofs.Rules.{clean_of, all_obey, as_many}
 
@@ -78,7 +79,8 @@ place_of ts left w s e tokens is TooDeep deep = (too_deep programs_lawful refl m
 read_of : (ts left : List Placed) (w : WrittenProgram) (stop : Option Stop) (e : ℕ) → AreTokens ts → program most_levels (open_at ts e) ≡ (w, reader stop left e) → IsReadOf ts e stop w
 read_of ts left w None e tokens is = let (none, are, within) = program_whole ts left w e tokens is in (are, within)
 read_of ts left w (Some s) e tokens is =
-    (left, filled_in programs_lawful most_levels ts left w s e tokens is, place_of ts left w s e tokens is s.cause refl, stop_of ts left w s e tokens is s.cause refl)
+    let filled = filled_in programs_lawful most_levels ts left w s e tokens is in
+    (left, filled, interfaces_filled most_levels ts filled.read left w s e is filled.whole, place_of ts left w s e tokens is s.cause refl, stop_of ts left w s e tokens is s.cause refl)
 
 all_read : (ws : List WrittenModule) → IsEach IsModule ws → AllByRecursion IsRead (map module_stands_for ws)
 all_read [] good = tt

@@ -1,7 +1,7 @@
 -- *Program*: which program a file is, and else the line and the cause of its refusal. Three passes are made, and the first one
 -- with a fault decides: tokens; reading, with the rules of interfaces; checking of modules and deployment.
-use Rattle.std.specs.Prelude.{◌≡◌, ◌⊎◌, ℕ, ◌<◌, ◌≤◌, List, [], ◌∷◌, length, map, All, IsAscii, Err, Option, Some, None}
-use Rattle.std.specs.List.{AllByRecursion}
+use Rattle.std.specs.Prelude.{◌≡◌, ◌⊎◌, ℕ, ◌<◌, ◌≤◌, Bool, true, false, List, [], ◌∷◌, ◌++◌, length, map, All, IsAscii, Err, Option, Some, None}
+use Rattle.std.specs.List.{AllByRecursion, flat_map}
 use Rattle.circus_text.specs.declared.token.Token.{Token}
 use Rattle.circus_text.specs.declared.lex_fault.LexFault.{LexFault}
 use Rattle.circus_text.specs.declared.lex_fault.LexFault.TheVariants as lexical
@@ -16,6 +16,7 @@ use Rattle.circus_syntax.specs.Placed.{Placed, AreWithin}
 use Rattle.circus_syntax.specs.Read.{placed_from}
 use Rattle.circus_syntax.specs.Reader.{open_at, place_in}
 use Rattle.circus_syntax.specs.Spelling.{most_levels}
+use Rattle.circus_syntax.specs.Filling.{AllBehind, as_further}
 use Rattle.circus_expression.specs.Ending.{Are, IsUnexpected, IsTooDeep, IsFilledIn}
 use Rattle.circus_fault.specs.declared.fault.Fault.{Fault}
 use Rattle.circus_fault.specs.Least.{least_from}
@@ -109,11 +110,21 @@ abbrev pub IsStopOf : StopCause → List Placed → List Placed → Type 0
 IsStopOf Unexpected ts left = IsUnexpected spelling_program IsProgram ts left
 IsStopOf TooDeep ts left = IsTooDeep spelling_program IsProgram most_levels ts left
 
--- what was written is the program that the tokens are, or, where reading stopped, one that they begin up to there
+-- whether each token of a program, up to the end of its interfaces, is one that would be filled in there
+abbrev pub as_format : Format → List Bool
+as_format One = true ∷ true ∷ true ∷ []
+as_format Two = true ∷ false ∷ true ∷ []
+
+abbrev pub as_interfaces : WrittenProgram → List Bool
+as_interfaces w = as_format w.format ++ flat_map as_further w.interfaces
+
+-- what was written is the program that the tokens are, or, where reading stopped, one that they begin up to there, and what
+-- its interfaces have besides is filled in
 abbrev pub IsReadOf : List Placed → ℕ → Option Stop → WrittenProgram → Type 0
 IsReadOf ts end None w = Are spelling_program IsProgram ts w × AreWithin most_levels (spelling_program w)
 IsReadOf ts end (Some s) w =
-    (left : List Placed) × IsFilledIn spelling_program IsProgram most_levels ts left s.place w × (s.place ≡ place_in left end) × IsStopOf s.cause ts left
+    (left : List Placed) × (filled : IsFilledIn spelling_program IsProgram most_levels ts left s.place w) × AllBehind filled.read (as_interfaces w)
+    × (s.place ≡ place_in left end) × IsStopOf s.cause ts left
 
 -- two stops are in one place, for one cause
 abbrev pub IsSameStop : Option Stop → Option Stop → Type 0

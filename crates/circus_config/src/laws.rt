@@ -21,11 +21,14 @@ pub fn one_answer()
         → IsRefused text refusal → ⊥ }
 {}
 
-/// Tokens are a program, or reading them stops in one place and for one cause, and not both: by the grammar alone, whatever
-/// tree is taken of those that the tokens begin.
-pub fn one_stop()
-    ensures { (ts : List Placed) (end : ℕ) (one other : Option Stop) (w v : WrittenProgram)
+/// Tokens are a program, or reading them stops in one place and for one cause, and not both; and they are read to one list of
+/// interfaces. The grammar alone says so.
+pub fn one_reading()
+    ensures stop { (ts : List Placed) (end : ℕ) (one other : Option Stop) (w v : WrittenProgram)
         → IsReadOf ts end one w → IsReadOf ts end other v → IsSameStop one other }
+    ensures interfaces { (ts : List Placed) (end : ℕ) (one other : Option Stop)
+        (w v : WrittenProgram) → IsReadOf ts end one w → IsReadOf ts end other v
+        → w.interfaces ≡ v.interfaces }
 {}
 
 /// The fault that is answered is one of all, and none of them is before it.
