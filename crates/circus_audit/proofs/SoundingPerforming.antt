@@ -107,14 +107,14 @@ module _ (plan : Plan) (s : Signature) (events : ℕ) where
 
   -- ---- what a member that performs no run does now
 
-  now_ended : (runs : List RunRecord) → AllByRecursion (IsEnded plan s events) runs → now_text runs ≡ codes "idle"
+  pub now_ended : (runs : List RunRecord) → AllByRecursion (IsEnded plan s events) runs → now_text runs ≡ codes "idle"
   now_ended [] all = refl
   now_ended (run ∷ []) all = ap (λ o. waiting_text o run.asks) all.0.is_outcome
   now_ended (run ∷ other ∷ runs) all =
       let here : length (run ∷ other ∷ runs) - 1 ≡ suc (length (other ∷ runs) - 1) = omega arith in
       ap (λ n. option_map_or (λ (r : RunRecord). waiting_text r.outcome r.asks) (slice_get (run ∷ other ∷ runs) n) (codes "idle")) here ∙ now_ended (other ∷ runs) all.1
 
-  now_waiting : (runs : List RunRecord) (run : RunRecord) (ask : AskRecord) → run.outcome ≡ None → now_text (runs ++ with_ask run ask ∷ []) ≡ codes "waiting ask " ++ decimal (length run.asks)
+  pub now_waiting : (runs : List RunRecord) (run : RunRecord) (ask : AskRecord) → run.outcome ≡ None → now_text (runs ++ with_ask run ask ∷ []) ≡ codes "waiting ask " ++ decimal (length run.asks)
   now_waiting runs run ask none =
       let number : length (run.asks ++ ask ∷ []) - 1 ≡ length run.asks = omega (arith, length-append run.asks (ask ∷ [])) in
       ap (λ o. option_map_or (λ (r : RunRecord). waiting_text r.outcome r.asks) o (codes "idle")) (last_is runs (with_ask run ask))

@@ -88,7 +88,7 @@ phase_sound events text phase short is = by_words (bytes_eq text (codes "outside
 
 -- ---- the member's first line
 
-who_text : (m n s t p v u w e : List ℕ) → (m ++ (n ++ (s ++ (t ++ (((p ++ v) ++ u) ++ w))))) ++ e ≡ (((((m ++ n) ++ s) ++ t) ++ p) ++ v) ++ ((u ++ w) ++ e)
+pub who_text : (m n s t p v u w e : List ℕ) → (m ++ (n ++ (s ++ (t ++ (((p ++ v) ++ u) ++ w))))) ++ e ≡ (((((m ++ n) ++ s) ++ t) ++ p) ++ v) ++ ((u ++ w) ++ e)
 who_text m n s t p v u w e = simp append_assoc
 
 head_text : (m n s t p v u f a b c d g e r k : List ℕ) → ((m ++ (n ++ (s ++ (t ++ (((p ++ v) ++ u) ++ ((f ++ a) ++ ((b ++ c) ++ (d ++ g)))))))) ++ e) ++ (r ++ k) ≡ (((((m ++ n) ++ s) ++ t) ++ p) ++ v) ++ (((((((((u ++ f) ++ a) ++ b) ++ c) ++ d) ++ g) ++ e) ++ r) ++ k)
@@ -107,7 +107,7 @@ abbrev pub active_head : Names → ℕ → ℕ → ℕ → ℕ → ℕ → List 
 active_head names node troupe from since count = line (who_line names node troupe (active_text (Active from since count)))
 
 -- the lines of a member that is active, from its first one on
-active_whole : (names : Names) (node troupe : ℕ) (kept : MemberRecord) (from since count : ℕ) (rest : List ℕ) → kept.phase ≡ joiner.Active from → kept.from ≡ from → kept.active_at ≡ since → kept.count ≡ count → rest ≡ runs_lines names kept.from kept.runs ++ now_line kept → active_head names node troupe from since count ++ rest ≡ member_lines names node troupe None kept
+pub active_whole : (names : Names) (node troupe : ℕ) (kept : MemberRecord) (from since count : ℕ) (rest : List ℕ) → kept.phase ≡ joiner.Active from → kept.from ≡ from → kept.active_at ≡ since → kept.count ≡ count → rest ≡ runs_lines names kept.from kept.runs ++ now_line kept → active_head names node troupe from since count ++ rest ≡ member_lines names node troupe None kept
 active_whole names node troupe kept from since count rest phase from_same since_same count_same is =
     (λ i. active_head names node troupe (sym from_same i) (sym since_same i) (sym count_same i) ++ is i)
     ∙ head_text (codes "member ") (names.node node) (codes " ") (names.troupe troupe) (codes " ") (codes "live") (codes " ") (codes "from ") (decimal kept.from) (codes " at ") (decimal kept.active_at) (codes " count ") (decimal kept.count) (10 ∷ []) (runs_lines names kept.from kept.runs) (now_line kept)

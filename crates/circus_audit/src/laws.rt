@@ -1,9 +1,15 @@
 // What holds of every text.
-ghost use Rattle.std.specs.Prelude.{◌≡◌, ℕ, List, Some};
+ghost use Rattle.std.specs.Prelude.{◌≡◌, ◌<◌, ℕ, List, Some, Ok, length, map};
+ghost use Rattle.std.specs.List.{AllByRecursion};
+ghost use Rattle.circus_text.specs.Form.{IsWord};
+ghost use Rattle.circus_check.specs.Meaning.{ModuleMeant};
+ghost use Rattle.circus_check.specs.Seen.Meant.{module_as};
 ghost use Rattle.circus_config.specs.declared.plan.Plan.{Plan};
+ghost use Rattle.circus_config.specs.Program.{IsPlan};
 ghost use Rattle.circus_audit.specs.declared.given.Given.{Given};
 ghost use Rattle.circus_audit.specs.RecordText.{IsRecordText};
 ghost use Rattle.circus_audit.specs.BadLine.{IsBadLine};
+ghost use Rattle.circus_audit.specs.Answer.{record_answer};
 ghost use Rattle.circus_audit.specs.Seen.Reading.{record_read};
 
 /// A text has one bad line at most.
@@ -22,4 +28,20 @@ pub fn records_have_no_bad_line()
 pub fn read_is_text()
     ensures { (plan : Plan) (text : List ℕ) (given : Given) → record_read plan text ≡ Some given
         → IsRecordText plan given text }
+{}
+
+/// And what a text says as a record is read.
+pub fn text_is_read()
+    ensures { (plan : Plan) (given : Given) (text : List ℕ) → IsPlan plan
+        → plan.names ≡ map (λ (m : ModuleMeant). m.name) (map module_as plan.checked.modules)
+        → AllByRecursion IsWord plan.names → length text < 4294967295
+        → IsRecordText plan given text → record_answer plan text ≡ Ok given }
+{}
+
+/// So it says one thing.
+pub fn text_says_one_thing()
+    ensures { (plan : Plan) (a b : Given) (text : List ℕ) → IsPlan plan
+        → plan.names ≡ map (λ (m : ModuleMeant). m.name) (map module_as plan.checked.modules)
+        → AllByRecursion IsWord plan.names → length text < 4294967295
+        → IsRecordText plan a text → IsRecordText plan b text → a ≡ b }
 {}
