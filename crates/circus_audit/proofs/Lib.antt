@@ -42,4 +42,13 @@ pub mod CompletingDiffering
 pub mod CompletingMembers
 pub mod CompletingBounds
 pub mod CompletingRecord
+pub mod GoingOn
+pub mod GoingBack
+pub mod GoingStages
+pub mod NoBadLine
+pub mod NoRecord
 pub mod OneReading
+pub mod LongRecord
+pub mod LongRecords
+pub mod NoneBegins
+pub mod BadAnswer

@@ -1,5 +1,5 @@
 // What holds of every text.
-ghost use Rattle.std.specs.Prelude.{◌≡◌, ◌<◌, ℕ, List, Some, Ok, length, map};
+ghost use Rattle.std.specs.Prelude.{◌≡◌, ◌<◌, ℕ, List, Some, Ok, Err, length, map};
 ghost use Rattle.std.specs.List.{AllByRecursion};
 ghost use Rattle.circus_text.specs.Form.{IsWord};
 ghost use Rattle.circus_check.specs.Meaning.{ModuleMeant};
@@ -8,7 +8,7 @@ ghost use Rattle.circus_config.specs.declared.plan.Plan.{Plan};
 ghost use Rattle.circus_config.specs.Program.{IsPlan};
 ghost use Rattle.circus_audit.specs.declared.given.Given.{Given};
 ghost use Rattle.circus_audit.specs.RecordText.{IsRecordText};
-ghost use Rattle.circus_audit.specs.BadLine.{IsBadLine};
+ghost use Rattle.circus_audit.specs.BadLine.{Begins, IsBadLine};
 ghost use Rattle.circus_audit.specs.Answer.{record_answer};
 ghost use Rattle.circus_audit.specs.Seen.Reading.{record_read};
 
@@ -44,4 +44,12 @@ pub fn text_says_one_thing()
         → plan.names ≡ map (λ (m : ModuleMeant). m.name) (map module_as plan.checked.modules)
         → AllByRecursion IsWord plan.names → length text < 4294967295
         → IsRecordText plan a text → IsRecordText plan b text → a ≡ b }
+{}
+
+/// No record goes on with the line that is answered as the bad one.
+pub fn no_record_goes_on()
+    ensures { (plan : Plan) (text : List ℕ) (line : ℕ) → IsPlan plan
+        → plan.names ≡ map (λ (m : ModuleMeant). m.name) (map module_as plan.checked.modules)
+        → AllByRecursion IsWord plan.names → length text < 4294967295
+        → record_answer plan text ≡ Err line → Begins plan text line → ⊥ }
 {}
