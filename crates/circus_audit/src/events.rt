@@ -71,7 +71,7 @@ fn read_datagram(
         (events.datagram_read (map host_name nodes.now) own (drop at line.now)) }
 {
     let (from, bytes) = read_addressed(alloc, line, at, nodes, own)?;
-    Ok(Event::Datagram(from, bytes.shared()?))
+    Ok(Event::Datagram(from, bytes.share()?))
 }
 
 fn read_down(line: &[u8], at: usize, nodes: &[Host], own: u16) -> Result<Event, Unread>

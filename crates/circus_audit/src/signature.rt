@@ -48,7 +48,7 @@ fn procedures_offered(
 }
 
 // The number of each module's interface.
-fn implemented(alloc: Global, modules: &[ResolvedModule]) -> Result<Vec<Option<u16>>, NoMemory>
+fn interface_numbers(alloc: Global, modules: &[ResolvedModule]) -> Result<Vec<Option<u16>>, NoMemory>
     ensures { IfOk result (λ numbers. numbers.items ≡ map (λ m. m.interface) modules.now) }
 {
     modules.iter().map(|module| module.interface).collect(alloc)
@@ -119,7 +119,7 @@ pub(crate) fn hosted_by(alloc: Global, plan: &Plan, own: u16) -> Result<Option<H
     let Some(module) = modules.get(usize::from(number)) else {
         return Ok(None);
     };
-    let implemented = implemented(alloc, modules.as_slice())?;
+    let implemented = interface_numbers(alloc, modules.as_slice())?;
     let signature = signature(
         alloc,
         plan.limit(),

@@ -54,7 +54,7 @@ fn measure(rt: &HostRuntime, work: Work, number: u32) -> io::Result<()> {
 
 fn turn_of_work(alloc: Global, work: Work, number: u32) -> Result<Turn<Paused>, NoMemory> {
     let body = match work {
-        Work::Counting => counting(alloc)?,
+        Work::Counting => count_body(alloc)?,
         Work::Adding => append_body(alloc)?,
     };
     let arguments = one(alloc, Value::LongCardinal(number))?;
@@ -71,7 +71,7 @@ fn one(alloc: Global, value: Value) -> Result<Values, NoMemory>
 }
 
 // The number counts up to the parameter, and is returned.
-fn counting(alloc: Global) -> Result<Body, NoMemory> {
+fn count_body(alloc: Global) -> Result<Body, NoMemory> {
     let sum = CheckedExpression::Calculate(
         Calculation::Plus,
         CheckedOperand::new(alloc, read(alloc, 1))?,

@@ -76,7 +76,7 @@ impl Net {
 
     fn send(&mut self, from: u16, outputs: Outputs) -> Result<(), Error> {
         for give in outputs.gives.into_items() {
-            let bytes = give.bytes.shared()?;
+            let bytes = give.bytes.share()?;
             let to = give.to;
             self.sent.push_back(Sent { from, to, bytes })?;
         }

@@ -127,7 +127,7 @@ fn arrive(datagrams: &Datagrams, at: &mut Pair) -> Result<Option<Datagrams>, NoM
     let Some(datagram) = datagrams.get(0) else {
         return Ok(None);
     };
-    let datagram = datagram.copy()?.shared()?;
+    let datagram = datagram.copy()?.share()?;
     match read_segment(datagram.as_slice()) {
         Ok(segment) => Ok(Some(at.take(&segment, &datagram)?.datagrams)),
         Err(_) => Ok(None),

@@ -27,7 +27,7 @@ use Rattle.circus_resolve.proofs.WellSorted.{truth_has, behind, at_place, well_s
 use Rattle.circus_body.specs.Context.{Reported, Offered, Called, not_imported, unsaid, a_module, Context}
 use Rattle.circus_body.specs.Faults as f
 use Rattle.circus_body.specs.Meaning.{bound_of, item_kind, module_number, procedure_number, error_number, places_meant, into_meant, handled_meant, does, all_do, all_handle}
-use Rattle.circus_body.specs.Regular.{IsWholeContext, PlaceIsOfBytes, PlacesAreOfBytes, HandledIsRead, IntoIsOfBytes, StatementIsOfBytes, StatementsAreOfBytes, HandlersAreOfBytes, shapes_of, IsOffered, IsReported, Takes, Reports}
+use Rattle.circus_body.specs.Regular.{IsWholeContext, PlaceIsOfBytes, PlacesAreOfBytes, HandledIsRead, IntoIsOfBytes, StatementIsOfBytes, StatementsAreOfBytes, HandlersAreOfBytes, shapes_of, IsOffered, IsReported, ContextTakes, ContextReports}
 
 -- as many as are wanted
 counted : (fs : FieldTrees) (n at : ℕ) → f.number_faults (for_fields fs) n at ≡ [] → n ≡ field_count fs
@@ -51,13 +51,13 @@ module _ (variables : List ShapeTree) where
     results = shapes_of context.own.results
 
     abbrev Typed : StatementTree → Type 0
-    Typed t = IsTyped variables (Takes context) (Reports context) results (IsReported context.own) (does context t)
+    Typed t = IsTyped variables (ContextTakes context) (ContextReports context) results (IsReported context.own) (does context t)
 
     abbrev AllTyped : StatementTrees → Type 0
-    AllTyped ss = AreTyped variables (Takes context) (Reports context) results (IsReported context.own) (c.statement_trees (all_do context ss))
+    AllTyped ss = AreTyped variables (ContextTakes context) (ContextReports context) results (IsReported context.own) (c.statement_trees (all_do context ss))
 
     abbrev HandlersTyped : Offered → ℕ → ℕ → HandlerTrees → Type 0
-    HandlersTyped o callee procedure hs = AreHandlers variables (Takes context) (Reports context) results (IsReported context.own) callee procedure (c.handler_trees (all_handle context (Some o) hs))
+    HandlersTyped o callee procedure hs = AreHandlers variables (ContextTakes context) (ContextReports context) results (IsReported context.own) callee procedure (c.handler_trees (all_handle context (Some o) hs))
 
     -- ---- a condition, a list, and places
 
@@ -122,17 +122,17 @@ module _ (variables : List ShapeTree) where
 
     one_handler : (callee : ℕ) (o : Offered) → IsOffered context callee o.number o → (at : ℕ) (error : Option Named) (places : Option (List PlaceTree)) (ss : c.StatementTrees) (hs : c.HandlerTrees)
         → HandledIsRead error places → f.handled_faults context (Some o) at error places ≡ []
-        → AreTyped variables (Takes context) (Reports context) results (IsReported context.own) ss
-        → AreHandlers variables (Takes context) (Reports context) results (IsReported context.own) callee o.number hs
-        → AreHandlers variables (Takes context) (Reports context) results (IsReported context.own) callee o.number (c.more_handlers (handled_meant (Some o) error) (places_meant context places) ss hs)
+        → AreTyped variables (ContextTakes context) (ContextReports context) results (IsReported context.own) ss
+        → AreHandlers variables (ContextTakes context) (ContextReports context) results (IsReported context.own) callee o.number hs
+        → AreHandlers variables (ContextTakes context) (ContextReports context) results (IsReported context.own) callee o.number (c.more_handlers (handled_meant (Some o) error) (places_meant context places) ss hs)
     one_handler callee o is_offered at None places ss hs read none typed others =
-        subst (λ (ps : Option (List PlaceTree)). AreHandlers variables (Takes context) (Reports context) results (IsReported context.own) callee o.number (c.more_handlers None (places_meant context ps) ss hs)) (sym read)
+        subst (λ (ps : Option (List PlaceTree)). AreHandlers variables (ContextTakes context) (ContextReports context) results (IsReported context.own) callee o.number (c.more_handlers None (places_meant context ps) ss hs)) (sym read)
         (w.other callee o.number ss hs typed others)
     one_handler callee o is_offered at (Some name) places ss hs read none typed others =
         let values = λ (x : Option Reported). f.into_faults context (f.values_of x) at places in
         let (error, into) = none_in (f.error_faults (Some o) name) (values (f.reported_by (Some o) name)) none in
         let (x, x_is, is_reported) = reported o name error in
-        subst (λ y. AreHandlers variables (Takes context) (Reports context) results (IsReported context.own) callee o.number (c.more_handlers (Some (error_number y)) (places_meant context places) ss hs)) (sym x_is)
+        subst (λ y. AreHandlers variables (ContextTakes context) (ContextReports context) results (IsReported context.own) callee o.number (c.more_handlers (Some (error_number y)) (places_meant context places) ss hs)) (sym x_is)
         (w.named callee o.number x.number (places_meant context places) ss hs (shapes_of x.values) (o, is_offered, is_reported) (into_takes x.values at places read (ap values (sym x_is) ∙ into)) typed others)
 
     -- ---- statements
@@ -162,7 +162,7 @@ module _ (variables : List ShapeTree) where
           let (u, u_is, holds) = place_well variables context.scope whole.scope p bytes.1 place in
           let (n, t, is) = sequence_is u p.name.at (ap (λ o. f.sequence_faults o p.name.at) (sym u_is) ∙ sequence) in
           let shape_is : place_shape context.scope p ≡ Some (shape.sequence n t) = u_is ∙ ap Some is in
-          subst (λ o. IsTyped variables (Takes context) (Reports context) results (IsReported context.own) (c.append (meant context.scope a) (place_meant context.scope p) (bound_of o) (item_kind (f.item_shape o)))) (sym shape_is)
+          subst (λ o. IsTyped variables (ContextTakes context) (ContextReports context) results (IsReported context.own) (c.append (meant context.scope a) (place_meant context.scope p) (bound_of o) (item_kind (f.item_shape o)))) (sym shape_is)
           (w.append (meant context.scope a) (place_meant context.scope p) n t (subst (Holds variables (place_meant context.scope p)) is holds)
           (stored_in t a bytes.0 inside (ap (λ o. wanted_for (f.item_shape o) (sort context.scope a) (place_of a)) (sym shape_is) ∙ own)))
       typed (s.call at q hs) bytes none =
@@ -174,7 +174,7 @@ module _ (variables : List ShapeTree) where
           let (front, into) = none_in (callee ++ arguments asks) (gives asks) ask in
           let (called, list) = none_in callee (arguments asks) front in
           let (o, o_is, is_offered) = offered (context.called q.«module».name) q refl called in
-          subst (λ x. IsTyped variables (Takes context) (Reports context) results (IsReported context.own)
+          subst (λ x. IsTyped variables (ContextTakes context) (ContextReports context) results (IsReported context.own)
           (c.call (module_number (context.called q.«module».name)) (procedure_number x) (each_meant context.scope (f.arguments_of x) 0 (expression_trees q.arguments)) (into_meant context q.into) (c.handler_trees (all_handle context x hs)))) (sym o_is)
           (w.call (module_number (context.called q.«module».name)) o.number (each_meant context.scope (for_fields o.arguments) 0 (expression_trees q.arguments)) (into_meant context q.into) (c.handler_trees (all_handle context (Some o) hs))
           (shapes_of o.arguments) (shapes_of o.results) (o, is_offered, refl, refl)
@@ -185,7 +185,7 @@ module _ (variables : List ShapeTree) where
           let values = λ (x : Option Reported). f.list_faults context (f.values_of x) name.at es in
           let (error, list) = none_in (f.error_faults (Some context.own) name) (values (f.reported_by (Some context.own) name)) none in
           let (x, x_is, is_reported) = reported context.own name error in
-          subst (λ y. IsTyped variables (Takes context) (Reports context) results (IsReported context.own) (c.raise (error_number y) (each_meant context.scope (f.values_of y) 0 (expression_trees es)))) (sym x_is)
+          subst (λ y. IsTyped variables (ContextTakes context) (ContextReports context) results (IsReported context.own) (c.raise (error_number y) (each_meant context.scope (f.values_of y) 0 (expression_trees es)))) (sym x_is)
           (w.raise x.number (each_meant context.scope (for_fields x.values) 0 (expression_trees es)) (shapes_of x.values) is_reported (list_gives x.values name.at es bytes (ap values (sym x_is) ∙ list)))
 
       all_typed : (ss : StatementTrees) → StatementsAreOfBytes ss → f.all_faults context ss ≡ [] → AllTyped ss
@@ -208,5 +208,5 @@ module _ (variables : List ShapeTree) where
 
   -- what has no fault is well formed
   pub well_typed : (context : Context) → IsWholeContext variables context → (ss : StatementTrees) → StatementsAreOfBytes ss → f.all_faults context ss ≡ []
-      → AreTyped variables (Takes context) (Reports context) (shapes_of context.own.results) (IsReported context.own) (c.statement_trees (all_do context ss))
+      → AreTyped variables (ContextTakes context) (ContextReports context) (shapes_of context.own.results) (IsReported context.own) (c.statement_trees (all_do context ss))
   well_typed context whole ss bytes none = all_typed context whole ss bytes none

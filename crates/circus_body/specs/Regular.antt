@@ -72,8 +72,8 @@ pub record IsReported (o : Offered) (number : ℕ) (values : List ShapeTree) : T
   pub shapes : shapes_of error.values ≡ values
 
 -- what the procedure of a number of the module of a number takes and gives, and what its errors have
-abbrev pub Takes : Context → ℕ → ℕ → List ShapeTree → List ShapeTree → Type 0
-Takes context callee procedure arguments gives = (o : Offered) × IsOffered context callee procedure o × (shapes_of o.arguments ≡ arguments) × (shapes_of o.results ≡ gives)
+abbrev pub ContextTakes : Context → ℕ → ℕ → List ShapeTree → List ShapeTree → Type 0
+ContextTakes context callee procedure arguments gives = (o : Offered) × IsOffered context callee procedure o × (shapes_of o.arguments ≡ arguments) × (shapes_of o.results ≡ gives)
 
-abbrev pub Reports : Context → ℕ → ℕ → ℕ → List ShapeTree → Type 0
-Reports context callee procedure number values = (o : Offered) × IsOffered context callee procedure o × IsReported o number values
+abbrev pub ContextReports : Context → ℕ → ℕ → ℕ → List ShapeTree → Type 0
+ContextReports context callee procedure number values = (o : Offered) × IsOffered context callee procedure o × IsReported o number values

@@ -17,7 +17,7 @@ ghost use Rattle.circus_body.specs.Seen.Named.{known_offer, context_as};
 ghost use Rattle.circus_body.specs.Seen.Parts.{call_of, one_handler_faults, one_handler_meant};
 
 use crate::wants::{
-    arguments_of, called, error_of, list, number_of, results_of, sequence_of, values_of,
+    arguments_of, called_procedure, error_of, list, number_of, results_of, sequence_of, values_of,
     want_number,
 };
 use crate::{Context, Offered};
@@ -299,7 +299,7 @@ fn resolve_call(
         ≡ meaning.does (context_as context.now)
         (s.call 0 (call_of call.now) (s.handler_trees call.now.handlers))) }
 {
-    let (callee, offered) = called(found, context, &call.module, &call.procedure);
+    let (callee, offered) = called_procedure(found, context, &call.module, &call.procedure);
     let slots = arguments_of(offered);
     let arguments = list(
         alloc,

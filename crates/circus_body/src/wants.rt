@@ -18,7 +18,7 @@ use circus_value::{NoMemory, Shape};
 use std::alloc::Global;
 
 /// The number of the module that is called, and its procedure where that is known.
-pub fn called<'m, 't>(
+pub fn called_procedure<'m, 't>(
     found: &mut Findings,
     context: &Context<'_, '_, 'm, 't>,
     module: &Named,

@@ -145,14 +145,14 @@ module _ (interfaces : List Interface) (modules : List ModuleTree) where
         by : Callee interfaces modules known n m callee is.procedures → Asked callee procedure o
         by callee_of = there callee_of.other callee_of.there callee_of.among callee_of.other.interface refl callee_of.offers
 
-    takes : (variables : List ℕ → Option Variable) (own : Offered) (callee procedure : ℕ) (arguments gives : List ShapeTree) → offered.Takes (context_of interfaces modules n m variables own) callee procedure arguments gives
-        → checked.Takes interfaces all_meant (import_numbers modules n m.imports) callee procedure arguments gives
+    takes : (variables : List ℕ → Option Variable) (own : Offered) (callee procedure : ℕ) (arguments gives : List ShapeTree) → offered.ContextTakes (context_of interfaces modules n m variables own) callee procedure arguments gives
+        → checked.ImportTakes interfaces all_meant (import_numbers modules n m.imports) callee procedure arguments gives
     takes variables own callee procedure arguments gives (o, is, takes_is, gives_is) =
         let a = asked_is variables own callee procedure o is in
         (a.among, a.interface, a.asked, a.offers, sym (shapes_are a.asked.arguments) ∙ ap (λ (x : Offered). offered.shapes_of x.arguments) a.is ∙ takes_is, sym (shapes_are a.asked.results) ∙ ap (λ (x : Offered). offered.shapes_of x.results) a.is ∙ gives_is)
 
-    reports : (variables : List ℕ → Option Variable) (own : Offered) (callee procedure number : ℕ) (values : List ShapeTree) → offered.Reports (context_of interfaces modules n m variables own) callee procedure number values
-        → checked.Reports interfaces all_meant (import_numbers modules n m.imports) callee procedure number values
+    reports : (variables : List ℕ → Option Variable) (own : Offered) (callee procedure number : ℕ) (values : List ShapeTree) → offered.ContextReports (context_of interfaces modules n m variables own) callee procedure number values
+        → checked.ImportReports interfaces all_meant (import_numbers modules n m.imports) callee procedure number values
     reports variables own callee procedure number values (o, is, reported) =
         let a = asked_is variables own callee procedure o is in
         (a.among, a.interface, a.asked, a.offers, raised a.interface a.asked number values (subst (λ (x : Offered). IsReported x number values) (sym a.is) reported))
@@ -224,12 +224,12 @@ module _ (interfaces : List Interface) (modules : List ModuleTree) where
         none : all_faults here statements ≡ []
         none = ap (λ k. all_faults k statements) (sym context_is) ∙ own.body
 
-        in_context : AreTyped (shapes_together state arguments locals) (offered.Takes here) (offered.Reports here) (offered.shapes_of o.results) (IsReported o) (c.statement_trees (all_do here statements))
+        in_context : AreTyped (shapes_together state arguments locals) (offered.ContextTakes here) (offered.ContextReports here) (offered.shapes_of o.results) (IsReported o) (c.statement_trees (all_do here statements))
         in_context = well_typed (shapes_together state arguments locals) here whole statements bytes none
 
-        typed : AreTyped (shapes_of (state ++ arguments ++ locals)) (checked.Takes interfaces all_meant (import_numbers modules n m.imports)) (checked.Reports interfaces all_meant (import_numbers modules n m.imports)) (offered.shapes_of o.results) Raises (c.statement_trees (all_do (context interfaces modules n m q) statements))
+        typed : AreTyped (shapes_of (state ++ arguments ++ locals)) (checked.ImportTakes interfaces all_meant (import_numbers modules n m.imports)) (checked.ImportReports interfaces all_meant (import_numbers modules n m.imports)) (offered.shapes_of o.results) Raises (c.statement_trees (all_do (context interfaces modules n m q) statements))
         typed =
-            subst (λ ss. AreTyped ss (checked.Takes interfaces all_meant (import_numbers modules n m.imports)) (checked.Reports interfaces all_meant (import_numbers modules n m.imports)) (offered.shapes_of o.results) Raises (c.statement_trees (all_do (context interfaces modules n m q) statements))) (sym (together state arguments locals))
-            (subst (λ k. AreTyped (shapes_together state arguments locals) (checked.Takes interfaces all_meant (import_numbers modules n m.imports)) (checked.Reports interfaces all_meant (import_numbers modules n m.imports)) (offered.shapes_of o.results) Raises (c.statement_trees (all_do k statements))) (sym context_is)
-            (all_typed_more (shapes_together state arguments locals) (offered.Takes here) (checked.Takes interfaces all_meant (import_numbers modules n m.imports)) (offered.Reports here) (checked.Reports interfaces all_meant (import_numbers modules n m.imports)) (offered.shapes_of o.results) (IsReported o) Raises
+            subst (λ ss. AreTyped ss (checked.ImportTakes interfaces all_meant (import_numbers modules n m.imports)) (checked.ImportReports interfaces all_meant (import_numbers modules n m.imports)) (offered.shapes_of o.results) Raises (c.statement_trees (all_do (context interfaces modules n m q) statements))) (sym (together state arguments locals))
+            (subst (λ k. AreTyped (shapes_together state arguments locals) (checked.ImportTakes interfaces all_meant (import_numbers modules n m.imports)) (checked.ImportReports interfaces all_meant (import_numbers modules n m.imports)) (offered.shapes_of o.results) Raises (c.statement_trees (all_do k statements))) (sym context_is)
+            (all_typed_more (shapes_together state arguments locals) (offered.ContextTakes here) (checked.ImportTakes interfaces all_meant (import_numbers modules n m.imports)) (offered.ContextReports here) (checked.ImportReports interfaces all_meant (import_numbers modules n m.imports)) (offered.shapes_of o.results) (IsReported o) Raises
             (takes variables o) (reports variables o) raises (c.statement_trees (all_do here statements)) in_context))

@@ -60,12 +60,12 @@ module _ (interfaces : List Interface) (modules : List ModuleMeant) where
     pub numbered : p.number ≡ number
 
   -- what a module may call, which it imports
-  abbrev pub Takes : List ℕ → ℕ → ℕ → List ShapeTree → List ShapeTree → Type 0
-  Takes imports callee number arguments gives =
+  abbrev pub ImportTakes : List ℕ → ℕ → ℕ → List ShapeTree → List ShapeTree → Type 0
+  ImportTakes imports callee number arguments gives =
       Contains imports callee × (i : Interface) × (p : Procedure) × Offers callee number i p × (shapes_of p.arguments ≡ arguments) × (shapes_of p.results ≡ gives)
 
-  abbrev pub Reports : List ℕ → ℕ → ℕ → ℕ → List ShapeTree → Type 0
-  Reports imports callee number error values =
+  abbrev pub ImportReports : List ℕ → ℕ → ℕ → ℕ → List ShapeTree → Type 0
+  ImportReports imports callee number error values =
       Contains imports callee × (i : Interface) × (p : Procedure) × Offers callee number i p × Raised i p error values
 
   -- a body with these arguments, which gives these results and raises these errors
@@ -73,7 +73,7 @@ module _ (interfaces : List Interface) (modules : List ModuleMeant) where
     pub names : AreDistinct (names_of (m.variables ++ arguments ++ b.locals))
     pub locals : AllByRecursion ObeysWhole (shapes_of b.locals)
     pub ends : all_end (statement_trees b.statements) ≡ true
-    pub typed : AreTyped (shapes_of (m.variables ++ arguments ++ b.locals)) (Takes m.imports) (Reports m.imports) results Raises (statement_trees b.statements)
+    pub typed : AreTyped (shapes_of (m.variables ++ arguments ++ b.locals)) (ImportTakes m.imports) (ImportReports m.imports) results Raises (statement_trees b.statements)
 
   -- a body for each procedure of an interface
   abbrev pub AreBodies : ModuleMeant → Interface → List Procedure → List BodyMeant → Type 0

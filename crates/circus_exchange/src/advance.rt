@@ -47,7 +47,7 @@ impl Advance {
                 part: &[],
                 ..*segment
             };
-            datagrams.push(answer.spelled(alloc)?)?;
+            datagrams.push(answer.spell(alloc)?)?;
         }
         Ok(datagrams)
     }

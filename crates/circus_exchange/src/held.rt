@@ -41,7 +41,7 @@ impl Part {
     }
 
     /// The bytes, shared once more.
-    pub fn shared(&self) -> Result<Bytes, NoMemory>
+    pub fn share(&self) -> Result<Bytes, NoMemory>
         ensures value { IfOk result (λ bytes. bytes ≡ self.now) }
         ensures short { IfOk result (λ bytes. length bytes ≤ part_size) }
     {

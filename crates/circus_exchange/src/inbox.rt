@@ -247,7 +247,7 @@ fn data_with(
         return part.clone();
     }
     match part_at(parts, number) {
-        Some(part) => part.shared(),
+        Some(part) => part.share(),
         None => Ok(Bytes::new()),
     }
 }

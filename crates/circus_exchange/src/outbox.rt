@@ -182,7 +182,7 @@ impl Outbox {
                 call: cut.call,
                 part: &[],
             };
-            datagrams.push(probe.spelled(alloc)?)?;
+            datagrams.push(probe.spell(alloc)?)?;
         }
         Ok(())
     }

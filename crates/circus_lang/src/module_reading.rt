@@ -28,12 +28,12 @@ pub fn module_or_root(reader: &mut Reader<'_>) -> Result<ModuleText, NoMemory>
     if reader.sees_word(b"ROOT") {
         root(reader)
     } else {
-        serving(reader)
+        serving_module(reader)
     }
 }
 
 // A module that implements an interface.
-fn serving(reader: &mut Reader<'_>) -> Result<ModuleText, NoMemory>
+fn serving_module(reader: &mut Reader<'_>) -> Result<ModuleText, NoMemory>
     ensures { IfOk result (λ read.
         shown module_stands_for (serving_module most_levels reader.old)
         ≡ (module_of read, reader.new)) }

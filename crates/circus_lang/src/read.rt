@@ -95,7 +95,7 @@ pub fn read_module_text(
     let module = module_or_root(&mut reader)?;
     Ok(ReadModule {
         module,
-        next: tokens.len() - reader.left(),
+        next: tokens.len() - reader.tokens_left(),
         stop: reader.stop(),
     })
 }

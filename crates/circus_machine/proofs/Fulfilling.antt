@@ -21,7 +21,7 @@ use Rattle.circus_evaluate.specs.Got.{and_then, value_of}
 use Rattle.circus_evaluate.specs.Evaluating.{evaluate, evaluate_all}
 use Rattle.circus_machine.specs.Meaning.{leave_together}
 use Rattle.circus_evaluate.specs.Typed.{Hold}
-use Rattle.circus_machine.specs.Modules.{trees, IsImported, Raises}
+use Rattle.circus_machine.specs.Modules.{trees, IsImported, SignatureRaises}
 use Rattle.circus_evaluate.proofs.Alike.{some_same}
 use Rattle.circus_evaluate.proofs.Fitting.{then_ok, if_ok}
 use Rattle.circus_evaluate.proofs.Sound.{value_given, gives}
@@ -92,11 +92,11 @@ pub same_imported : (imports : List Import) (callee procedure : ℕ) (p q : Proc
 same_imported imports callee procedure p q one other =
     some_same p q (sym one.numbered ∙ ap (λ i. procedure_numbered procedure i.procedures) (some_same one.import other.import (sym one.named ∙ other.named)) ∙ other.numbered)
 
-pub raises_reported : (errors : List ErrorShape) (number : ℕ) (shapes : List ShapeTree) (ts : List ValueTree) → Raises errors number shapes → Hold shapes ts → IsTrue (is_reported errors number ts)
+pub raises_reported : (errors : List ErrorShape) (number : ℕ) (shapes : List ShapeTree) (ts : List ValueTree) → SignatureRaises errors number shapes → Hold shapes ts → IsTrue (is_reported errors number ts)
 raises_reported errors number shapes ts raises hold =
     ap (λ e. option_map_or (λ e. all_fit e.arguments ts) e false) raises.numbered ∙ hold_fit raises.error.arguments ts (subst (λ ss. Hold ss ts) (sym raises.has) hold)
 
-pub reported_holds : (errors : List ErrorShape) (number : ℕ) (shapes : List ShapeTree) (ts : List ValueTree) → Raises errors number shapes → IsTrue (is_reported errors number ts) → Hold shapes ts
+pub reported_holds : (errors : List ErrorShape) (number : ℕ) (shapes : List ShapeTree) (ts : List ValueTree) → SignatureRaises errors number shapes → IsTrue (is_reported errors number ts) → Hold shapes ts
 reported_holds errors number shapes ts raises reported =
     subst (λ ss. Hold ss ts) raises.has (fit_hold raises.error.arguments ts (sym (ap (λ e. option_map_or (λ e. all_fit e.arguments ts) e false) raises.numbered) ∙ reported))
 

@@ -25,7 +25,7 @@ use Rattle.circus_evaluate.specs.Evaluating.{evaluate}
 use Rattle.circus_machine.specs.Storing.{stored_over, appended_over, store_at}
 use Rattle.circus_machine.specs.Meaning.{Going, Flow, goes_on, ends, then_does, value_or_end, leave_together, assign_value, stores, fill_places, test_condition, left_with, takes, make_call, turns, after_reply, does, does_all, handled}
 use Rattle.circus_evaluate.specs.Typed.{IsGot, Hold}
-use Rattle.circus_machine.specs.Modules.{trees, IsImported, Takes, Raises, Reports}
+use Rattle.circus_machine.specs.Modules.{trees, IsImported, SignatureTakes, SignatureRaises, SignatureReports}
 use Rattle.circus_evaluate.proofs.Sound.{gives, got_is}
 use Rattle.circus_machine.proofs.Assigning.{stored_well, over_fits, append_fits}
 use Rattle.circus_machine.proofs.Fulfilling.{hold_fit, fit_hold, leaving_given, imported_takes, imported_answers, same_imported, raises_reported, reported_holds, language_alone}
@@ -156,9 +156,9 @@ module _ (signature : Signature) (p : ProcedureShape) (shapes : List ShapeTree) 
   unhandled_goes false error n variables is well = failing signature p shapes states alone nothing n Unhandled variables well
 
   -- the values of an error that a handler names
-  module _ (callee procedure number : ℕ) (q : ProcedureShape) (imported : IsImported signature.imports callee procedure q) (given : List ShapeTree) (reports : Reports signature.imports callee procedure number given) where
-    raises_same : Raises q.errors number given
-    raises_same = subst (λ r. Raises r.errors number given) (same_imported signature.imports callee procedure reports.shape q reports.imported imported) reports.raises
+  module _ (callee procedure number : ℕ) (q : ProcedureShape) (imported : IsImported signature.imports callee procedure q) (given : List ShapeTree) (reports : SignatureReports signature.imports callee procedure number given) where
+    raises_same : SignatureRaises q.errors number given
+    raises_same = subst (λ r. SignatureRaises r.errors number given) (same_imported signature.imports callee procedure reports.shape q reports.imported imported) reports.raises
 
     named_goes : (places : List CheckedPlace) (ts : List ValueTree) → Take shapes places given → IsTrue (outcome_fits q (Raised number ts)) → Safe (fill_places limit states places ts)
     named_goes places ts take fits n variables steps well =
@@ -168,13 +168,13 @@ module _ (signature : Signature) (p : ProcedureShape) (shapes : List ShapeTree) 
         ]
 
   abbrev Typed : StatementTree → Type 0
-  Typed s = IsTyped shapes (Takes signature.imports) (Reports signature.imports) (trees p.results) (Raises p.errors) s
+  Typed s = IsTyped shapes (SignatureTakes signature.imports) (SignatureReports signature.imports) (trees p.results) (SignatureRaises p.errors) s
 
   abbrev AllTyped : StatementTrees → Type 0
-  AllTyped ss = AreTyped shapes (Takes signature.imports) (Reports signature.imports) (trees p.results) (Raises p.errors) ss
+  AllTyped ss = AreTyped shapes (SignatureTakes signature.imports) (SignatureReports signature.imports) (trees p.results) (SignatureRaises p.errors) ss
 
   abbrev HandlersTyped : ℕ → ℕ → HandlerTrees → Type 0
-  HandlersTyped callee procedure hs = AreHandlers shapes (Takes signature.imports) (Reports signature.imports) (trees p.results) (Raises p.errors) callee procedure hs
+  HandlersTyped callee procedure hs = AreHandlers shapes (SignatureTakes signature.imports) (SignatureReports signature.imports) (trees p.results) (SignatureRaises p.errors) callee procedure hs
 
   -- errors with these values are handled
   abbrev Handles : ProcedureShape → (ℕ → List ValueTree → Going → Flow Going) → Type 0
@@ -184,7 +184,7 @@ module _ (signature : Signature) (p : ProcedureShape) (shapes : List ShapeTree) 
   answered_goes q places handle take each (Returned ts) fits n variables steps well = take_goes n places (trees q.results) ts variables steps take (fit_hold q.results ts fits) well
   answered_goes q places handle take each (Raised error ts) fits n variables steps well = each error ts fits n variables steps well
 
-  call_goes : (callee procedure : ℕ) (es : List ExpressionTree) (places : List CheckedPlace) (handlers : HandlerTrees) (arguments results : List ShapeTree) → Takes signature.imports callee procedure arguments results → EachGives shapes es arguments → Take shapes places results
+  call_goes : (callee procedure : ℕ) (es : List ExpressionTree) (places : List CheckedPlace) (handlers : HandlerTrees) (arguments results : List ShapeTree) → SignatureTakes signature.imports callee procedure arguments results → EachGives shapes es arguments → Take shapes places results
       → ((q : ProcedureShape) → IsImported signature.imports callee procedure q → Handles q (handled limit states handlers))
       → Safe (λ c. then_does (make_call limit states callee procedure es c) (λ x. after_reply limit states places (handled limit states handlers) x.0 x.1))
   call_goes callee procedure es places handlers arguments results takes each take handles n variables steps well =

@@ -33,23 +33,23 @@ pub record IsImported (imports : List Import) (callee procedure : ℕ) (p : Proc
   pub numbered : procedure_numbered procedure import.procedures ≡ Some p
 
 -- which takes and gives values of these shapes
-pub record Takes (imports : List Import) (callee procedure : ℕ) (arguments results : List ShapeTree) : Type 0 where
+pub record SignatureTakes (imports : List Import) (callee procedure : ℕ) (arguments results : List ShapeTree) : Type 0 where
   pub shape : ProcedureShape
   pub imported : IsImported imports callee procedure shape
   pub takes : trees shape.arguments ≡ arguments
   pub gives : trees shape.results ≡ results
 
 -- one of the errors has this number, and values of these shapes
-pub record Raises (errors : List ErrorShape) (number : ℕ) (values : List ShapeTree) : Type 0 where
+pub record SignatureRaises (errors : List ErrorShape) (number : ℕ) (values : List ShapeTree) : Type 0 where
   pub error : ErrorShape
   pub numbered : find (λ e. e.number == number) errors ≡ Some error
   pub has : trees error.arguments ≡ values
 
 -- a procedure of an imported module reports it
-pub record Reports (imports : List Import) (callee procedure number : ℕ) (values : List ShapeTree) : Type 0 where
+pub record SignatureReports (imports : List Import) (callee procedure number : ℕ) (values : List ShapeTree) : Type 0 where
   pub shape : ProcedureShape
   pub imported : IsImported imports callee procedure shape
-  pub raises : Raises shape.errors number values
+  pub raises : SignatureRaises shape.errors number values
 
 -- ---- which bodies a module may have
 
@@ -57,7 +57,7 @@ pub record Reports (imports : List Import) (callee procedure number : ℕ) (valu
 pub record IsBodyOf (signature : Signature) (p : ProcedureShape) (body : Body) : Type 0 where
   pub locals : List ShapeTree
   pub hold : Hold locals body.locals
-  pub typed : AreTyped (trees signature.variables ++ (trees p.arguments ++ locals)) (Takes signature.imports) (Reports signature.imports) (trees p.results) (Raises p.errors) (statement_trees body.statements)
+  pub typed : AreTyped (trees signature.variables ++ (trees p.arguments ++ locals)) (SignatureTakes signature.imports) (SignatureReports signature.imports) (trees p.results) (SignatureRaises p.errors) (statement_trees body.statements)
 
 -- one for each of these procedures, in order
 abbrev pub AreBodiesOf : Signature → List ProcedureShape → List Body → Type 0

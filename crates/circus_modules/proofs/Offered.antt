@@ -60,7 +60,7 @@ procedure_found i p number obeys there is =
 
 module _ (interfaces : List Interface) (modules : List ModuleMeant) where
   -- what a procedure raises is among the errors of its shape
-  pub raised_here : (i : Interface) (p : Procedure) (number : ℕ) (values : List ShapeTree) → Obeys i → Raised interfaces modules i p number values → machine.Raises (procedure_of i.errors p).errors number values
+  pub raised_here : (i : Interface) (p : Procedure) (number : ℕ) (values : List ShapeTree) → Obeys i → Raised interfaces modules i p number values → machine.SignatureRaises (procedure_of i.errors p).errors number values
   raised_here i p number values obeys raised = record {
     error = error_of raised.error;
     numbered =
@@ -90,8 +90,8 @@ module _ (interfaces : List Interface) (modules : List ModuleMeant) where
           ∙ procedure_found i p procedure (obey offers.implemented.number i offers.implemented.found) offers.declared offers.numbered;
     }
 
-    pub takes_here : (callee procedure : ℕ) (arguments gives : List ShapeTree) → checked.Takes interfaces modules imports callee procedure arguments gives
-        → machine.Takes (map (import_of interfaces (interface_numbers modules)) imports) callee procedure arguments gives
+    pub takes_here : (callee procedure : ℕ) (arguments gives : List ShapeTree) → checked.ImportTakes interfaces modules imports callee procedure arguments gives
+        → machine.SignatureTakes (map (import_of interfaces (interface_numbers modules)) imports) callee procedure arguments gives
     takes_here callee procedure arguments gives (among, i, p, offers, taken, given) = record {
       shape = procedure_of i.errors p;
       imported = imported_is callee procedure i p among offers;
@@ -99,8 +99,8 @@ module _ (interfaces : List Interface) (modules : List ModuleMeant) where
       gives = shapes_forth p.results ∙ given;
     }
 
-    pub reports_here : (callee procedure number : ℕ) (values : List ShapeTree) → checked.Reports interfaces modules imports callee procedure number values
-        → machine.Reports (map (import_of interfaces (interface_numbers modules)) imports) callee procedure number values
+    pub reports_here : (callee procedure number : ℕ) (values : List ShapeTree) → checked.ImportReports interfaces modules imports callee procedure number values
+        → machine.SignatureReports (map (import_of interfaces (interface_numbers modules)) imports) callee procedure number values
     reports_here callee procedure number values (among, i, p, offers, raised) = record {
       shape = procedure_of i.errors p;
       imported = imported_is callee procedure i p among offers;

@@ -40,7 +40,7 @@ module _ (limit : ℕ) (interfaces : List Interface) (modules : List ModuleMeant
 
   -- one body, whose procedure has this shape
   body_here : (p : ProcedureShape) (arguments : List FieldTree) (results : List ShapeTree) (raises : ℕ → List ShapeTree → Type 0) (b : BodyMeant) (made : Body)
-      → p.arguments ≡ shapes_in arguments → trees p.results ≡ results → ((number : ℕ) (values : List ShapeTree) → raises number values → machine.Raises p.errors number values)
+      → p.arguments ≡ shapes_in arguments → trees p.results ≡ results → ((number : ℕ) (values : List ShapeTree) → raises number values → machine.SignatureRaises p.errors number values)
       → IsBody interfaces modules m arguments results raises b → IsMade b made → IsBodyOf declared p made
   unfolding declared
   body_here p arguments results raises b made taken given raised is same = record {
@@ -48,13 +48,13 @@ module _ (limit : ℕ) (interfaces : List Interface) (modules : List ModuleMeant
     hold = subst (Hold (shapes_of b.locals)) (sym same.locals) (zeros_hold b.locals is.locals);
     typed =
         let imports = map (import_of interfaces (interface_numbers modules)) m.imports in
-        let own : AreTyped (shapes_of (m.variables ++ arguments ++ b.locals)) (machine.Takes imports) (machine.Reports imports) results (machine.Raises p.errors) (statement_trees b.statements) =
-        all_typed_more (shapes_of (m.variables ++ arguments ++ b.locals)) (checked.Takes interfaces modules m.imports) (machine.Takes imports) (checked.Reports interfaces modules m.imports) (machine.Reports imports) results raises (machine.Raises p.errors)
+        let own : AreTyped (shapes_of (m.variables ++ arguments ++ b.locals)) (machine.SignatureTakes imports) (machine.SignatureReports imports) results (machine.SignatureRaises p.errors) (statement_trees b.statements) =
+        all_typed_more (shapes_of (m.variables ++ arguments ++ b.locals)) (checked.ImportTakes interfaces modules m.imports) (machine.SignatureTakes imports) (checked.ImportReports interfaces modules m.imports) (machine.SignatureReports imports) results raises (machine.SignatureRaises p.errors)
         (takes_here interfaces modules obey m.imports) (reports_here interfaces modules obey m.imports) raised (statement_trees b.statements) is.typed in
         let shaped = together m.variables arguments b.locals ∙ ap (λ xs. trees (shapes_in m.variables) ++ (trees xs ++ shapes_of b.locals)) (sym taken) in
-        subst (λ ss. AreTyped (trees (shapes_in m.variables) ++ (trees p.arguments ++ shapes_of b.locals)) (machine.Takes imports) (machine.Reports imports) (trees p.results) (machine.Raises p.errors) (statement_trees ss)) (sym same.statements)
-        (subst (λ gs. AreTyped (trees (shapes_in m.variables) ++ (trees p.arguments ++ shapes_of b.locals)) (machine.Takes imports) (machine.Reports imports) gs (machine.Raises p.errors) (statement_trees b.statements)) (sym given)
-        (subst (λ vs. AreTyped vs (machine.Takes imports) (machine.Reports imports) results (machine.Raises p.errors) (statement_trees b.statements)) shaped own));
+        subst (λ ss. AreTyped (trees (shapes_in m.variables) ++ (trees p.arguments ++ shapes_of b.locals)) (machine.SignatureTakes imports) (machine.SignatureReports imports) (trees p.results) (machine.SignatureRaises p.errors) (statement_trees ss)) (sym same.statements)
+        (subst (λ gs. AreTyped (trees (shapes_in m.variables) ++ (trees p.arguments ++ shapes_of b.locals)) (machine.SignatureTakes imports) (machine.SignatureReports imports) gs (machine.SignatureRaises p.errors) (statement_trees b.statements)) (sym given)
+        (subst (λ vs. AreTyped vs (machine.SignatureTakes imports) (machine.SignatureReports imports) results (machine.SignatureRaises p.errors) (statement_trees b.statements)) shaped own));
   }
 
   -- a body for each procedure of the interface

@@ -78,7 +78,7 @@ fn names_present(reader: &mut Reader) -> Result<Option<Nameds>, NoMemory>
 fn end(reader: &mut Reader)
     ensures { text_end reader.old ≡ (tt, reader.new) }
 {
-    if reader.left() > 0 {
+    if reader.tokens_left() > 0 {
         reader.stop_here(StopCause::Unexpected);
     }
 }

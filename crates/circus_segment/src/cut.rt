@@ -61,7 +61,7 @@ impl Cut<'_> {
             call: self.call,
             part: part_at(self.message, number),
         };
-        segment.spelled(alloc)
+        segment.spell(alloc)
     }
 
     /// Adds the datagrams of all segments, in order.

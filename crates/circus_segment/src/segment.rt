@@ -186,7 +186,7 @@ impl Segment<'_> {
 
     /// The bytes of the segment (docs/FORMATS.md, "Segments"), or `NoMemory`.
     #[tactic(auto, unfolding(crate::specs::Segment::spelling))]
-    pub fn spelled(&self, alloc: Global) -> Result<Message, NoMemory>
+    pub fn spell(&self, alloc: Global) -> Result<Message, NoMemory>
         ensures { IfOk result (λ bytes. bytes ≡ spelling (piece self.now)) }
     {
         let mut bytes = Vec::with_capacity(alloc, self.part.len().saturating_add(SECOND_HEADER))?;

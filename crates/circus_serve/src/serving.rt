@@ -112,7 +112,7 @@ impl<M: Module> Serving<M> {
             self.log.add_foreign(port, bytes)?;
             return Ok(self);
         };
-        let bytes = bytes.shared()?;
+        let bytes = bytes.share()?;
         self.come(Event::Datagram(from, bytes), deployment, link)
     }
 

@@ -54,7 +54,7 @@ pub fn read_interface_text(
     let interface = reader.interface()?;
     Ok(Read {
         interface,
-        next: tokens.len() - reader.left(),
+        next: tokens.len() - reader.tokens_left(),
         stop: reader.stop(),
     })
 }

@@ -70,7 +70,7 @@ impl<'a> Reader<'a> {
     }
 
     /// How many tokens are left.
-    pub fn left(&self) -> usize
+    pub fn tokens_left(&self) -> usize
         ensures { result ≡ length self.now.rest }
     {
         self.left.len()
@@ -252,25 +252,25 @@ impl<'a> Reader<'a> {
     pub fn word(&mut self, bytes: &[u8])
         ensures { expect_token (word bytes.now) self.old ≡ (tt, self.new) }
     {
-        self.fixed(TokenKind::Word, bytes);
+        self.expect(TokenKind::Word, bytes);
     }
 
     /// Reads this sign, or stops.
     pub fn sign(&mut self, bytes: &[u8])
         ensures { expect_token (sign bytes.now) self.old ≡ (tt, self.new) }
     {
-        self.fixed(TokenKind::Sign, bytes);
+        self.expect(TokenKind::Sign, bytes);
     }
 
     /// Reads a number that is written so, or stops.
     pub fn digits(&mut self, bytes: &[u8])
         ensures { expect_token (digits bytes.now) self.old ≡ (tt, self.new) }
     {
-        self.fixed(TokenKind::Number, bytes);
+        self.expect(TokenKind::Number, bytes);
     }
 
     #[tactic(auto, unfolding(crate::specs::Reading::expect_token))]
-    fn fixed(&mut self, kind: TokenKind, bytes: &[u8])
+    fn expect(&mut self, kind: TokenKind, bytes: &[u8])
         ensures { expect_token (record { kind = kind; bytes = bytes.now }) self.old
             ≡ (tt, self.new) }
     {

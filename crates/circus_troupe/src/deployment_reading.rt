@@ -150,7 +150,7 @@ fn host(reader: &mut Reader<'_>) -> Result<HostText, NoMemory>
 fn text_end(reader: &mut Reader<'_>)
     ensures { text_end reader.old ≡ (tt, reader.new) }
 {
-    if reader.left() > 0 {
+    if reader.tokens_left() > 0 {
         reader.stop_here(StopCause::Unexpected);
     }
 }

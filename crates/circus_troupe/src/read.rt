@@ -41,7 +41,7 @@ pub fn read_deployment_text(
     let deployment = deployment(&mut reader)?;
     Ok(ReadDeployment {
         deployment,
-        next: tokens.len() - reader.left(),
+        next: tokens.len() - reader.tokens_left(),
         stop: reader.stop(),
     })
 }

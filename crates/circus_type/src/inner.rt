@@ -107,7 +107,7 @@ pub fn field_names<C: WithTypeCauses>(
     Ok(())
 }
 
-fn called<N: TypeNames, C: WithTypeCauses>(names: &N, best: &mut Best<C>, name: &TypeName)
+fn note_unknown<N: TypeNames, C: WithTypeCauses>(names: &N, best: &mut Best<C>, name: &TypeName)
     ensures { best.new.fault
         ≡ least_from C.rank best.old.fault
         (faults.unknown_faults C.embed (N.unknown names.now name.now)) }
@@ -157,7 +157,7 @@ pub fn check_inside<N: TypeNames, C: WithTypeCauses>(
             inside_arms(alloc, names, best, arms.as_slice())
         }
         TypeKind::Called(name) => {
-            called(names, best, name);
+            note_unknown(names, best, name);
             Ok(())
         }
         _ => Ok(()),

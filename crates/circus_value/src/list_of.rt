@@ -108,7 +108,7 @@ impl<T> ListOf<T> {
 
 impl ListOf<u8> {
     /// These bytes in a form that is shared and not copied.
-    pub fn shared(self) -> Result<Bytes, NoMemory>
+    pub fn share(self) -> Result<Bytes, NoMemory>
         ensures { IfOk result (λ bytes. bytes ≡ self) }
     {
         let ListOf { items } = self;

@@ -499,7 +499,7 @@ fn send(step: u64, node: u16, gives: Gives, sent: &mut SentList) -> Result<(), N
             step,
             from: node,
             to: give.to,
-            bytes: give.bytes.shared()?,
+            bytes: give.bytes.share()?,
         })?;
     }
     Ok(())

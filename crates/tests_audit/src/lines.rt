@@ -36,7 +36,7 @@ fn behind(text: &[u8], lines: usize) -> usize {
 }
 
 // The first bad line of a text in which other lines stand from a line on, in place of so many.
-fn changed(
+fn change_lines(
     alloc: Global,
     text: &str,
     line: usize,
@@ -69,32 +69,32 @@ fn ends_count_as_lines(rt: HostRuntime) -> Result<(), Fail> {
     assert_eq!(rt; bad_line(alloc, b"circus node 1 m1")?, 1);
     assert_eq!(rt; bad_line(alloc, b"circus node 1 zz\n")?, 1);
     assert_eq!(rt; bad_line(alloc, b"circus node 1 m1\n")?, 2);
-    assert_eq!(rt; changed(alloc, CLIENT, 7, 1, "")?, 7);
+    assert_eq!(rt; change_lines(alloc, CLIENT, 7, 1, "")?, 7);
     assert_eq!(rt;
-        changed(alloc, CLIENT, 7, 1, "now waiting ask 0 state [0]")?,
+        change_lines(alloc, CLIENT, 7, 1, "now waiting ask 0 state [0]")?,
         7
     );
-    assert_eq!(rt; changed(alloc, CLIENT, 8, 0, "now idle state [0]\n")?, 8);
-    assert_eq!(rt; changed(alloc, CLIENT, 8, 0, "x")?, 8);
-    assert_eq!(rt; changed(alloc, CLIENT, 3, 1, "")?, 0);
+    assert_eq!(rt; change_lines(alloc, CLIENT, 8, 0, "now idle state [0]\n")?, 8);
+    assert_eq!(rt; change_lines(alloc, CLIENT, 8, 0, "x")?, 8);
+    assert_eq!(rt; change_lines(alloc, CLIENT, 3, 1, "")?, 0);
     Ok(())
 }
 
 #[test]
 fn events_are_read(rt: HostRuntime) -> Result<(), Fail> {
     let alloc = rt.alloc();
-    assert_eq!(rt; changed(alloc, CLIENT, 2, 1, "event 1 boot\n")?, 2);
-    assert_eq!(rt; changed(alloc, CLIENT, 2, 0, "foreign 1 00\n")?, 2);
-    assert_eq!(rt; changed(alloc, CLIENT, 2, 0, "give s1 00\n")?, 2);
-    assert_eq!(rt; changed(alloc, CLIENT, 3, 1, "give m1 00\n")?, 3);
-    assert_eq!(rt; changed(alloc, CLIENT, 3, 1, "give s1 \n")?, 0);
-    assert_eq!(rt; changed(alloc, CLIENT, 3, 1, "give s1\n")?, 3);
-    assert_eq!(rt; changed(alloc, CLIENT, 3, 1, "give s1 0\n")?, 3);
-    assert_eq!(rt; changed(alloc, CLIENT, 3, 1, "give s1 0A\n")?, 3);
-    assert_eq!(rt; changed(alloc, CLIENT, 3, 0, "foreign 1 00\n")?, 4);
-    assert_eq!(rt; changed(alloc, CLIENT, 4, 0, "foreign 65536 00\n")?, 4);
+    assert_eq!(rt; change_lines(alloc, CLIENT, 2, 1, "event 1 boot\n")?, 2);
+    assert_eq!(rt; change_lines(alloc, CLIENT, 2, 0, "foreign 1 00\n")?, 2);
+    assert_eq!(rt; change_lines(alloc, CLIENT, 2, 0, "give s1 00\n")?, 2);
+    assert_eq!(rt; change_lines(alloc, CLIENT, 3, 1, "give m1 00\n")?, 3);
+    assert_eq!(rt; change_lines(alloc, CLIENT, 3, 1, "give s1 \n")?, 0);
+    assert_eq!(rt; change_lines(alloc, CLIENT, 3, 1, "give s1\n")?, 3);
+    assert_eq!(rt; change_lines(alloc, CLIENT, 3, 1, "give s1 0\n")?, 3);
+    assert_eq!(rt; change_lines(alloc, CLIENT, 3, 1, "give s1 0A\n")?, 3);
+    assert_eq!(rt; change_lines(alloc, CLIENT, 3, 0, "foreign 1 00\n")?, 4);
+    assert_eq!(rt; change_lines(alloc, CLIENT, 4, 0, "foreign 65536 00\n")?, 4);
     assert_eq!(rt;
-        changed(
+        change_lines(
             alloc,
             CLIENT,
             4,
@@ -103,12 +103,12 @@ fn events_are_read(rt: HostRuntime) -> Result<(), Fail> {
         )?,
         0
     );
-    assert_eq!(rt; changed(alloc, CLIENT, 4, 0, "event 01 tick\n")?, 4);
+    assert_eq!(rt; change_lines(alloc, CLIENT, 4, 0, "event 01 tick\n")?, 4);
     assert_eq!(rt;
-        changed(alloc, SERVER, 3, 1, "event 1 datagram s1 00\n")?,
+        change_lines(alloc, SERVER, 3, 1, "event 1 datagram s1 00\n")?,
         3
     );
-    assert_eq!(rt; changed(alloc, SERVER, 3, 1, "event 1 down s1\n")?, 3);
+    assert_eq!(rt; change_lines(alloc, SERVER, 3, 1, "event 1 down s1\n")?, 3);
     Ok(())
 }
 
@@ -116,9 +116,9 @@ fn events_are_read(rt: HostRuntime) -> Result<(), Fail> {
 fn members_are_read(rt: HostRuntime) -> Result<(), Fail> {
     let alloc = rt.alloc();
     let member = "member m1 Main live from 0 at 0 count 1\n";
-    assert_eq!(rt; changed(alloc, CLIENT, 4, 1, member)?, 7);
+    assert_eq!(rt; change_lines(alloc, CLIENT, 4, 1, member)?, 7);
     assert_eq!(rt;
-        changed(
+        change_lines(
             alloc,
             CLIENT,
             4,
@@ -128,7 +128,7 @@ fn members_are_read(rt: HostRuntime) -> Result<(), Fail> {
         4
     );
     assert_eq!(rt;
-        changed(
+        change_lines(
             alloc,
             CLIENT,
             4,
@@ -138,7 +138,7 @@ fn members_are_read(rt: HostRuntime) -> Result<(), Fail> {
         4
     );
     assert_eq!(rt;
-        changed(
+        change_lines(
             alloc,
             CLIENT,
             4,
@@ -148,23 +148,23 @@ fn members_are_read(rt: HostRuntime) -> Result<(), Fail> {
         5
     );
     assert_eq!(rt;
-        changed(alloc, CLIENT, 4, 1, "member m1 Counter live outside\n")?,
+        change_lines(alloc, CLIENT, 4, 1, "member m1 Counter live outside\n")?,
         4
     );
     assert_eq!(rt;
-        changed(alloc, CLIENT, 4, 1, "member s1 Main live outside\n")?,
+        change_lines(alloc, CLIENT, 4, 1, "member s1 Main live outside\n")?,
         4
     );
     assert_eq!(rt;
-        changed(alloc, CLIENT, 4, 1, "member m1 Main crashed 0 outside\n")?,
+        change_lines(alloc, CLIENT, 4, 1, "member m1 Main crashed 0 outside\n")?,
         4
     );
     assert_eq!(rt;
-        changed(alloc, CLIENT, 4, 1, "member m1 Main live asking\n")?,
+        change_lines(alloc, CLIENT, 4, 1, "member m1 Main live asking\n")?,
         5
     );
     assert_eq!(rt;
-        changed(
+        change_lines(
             alloc,
             APART,
             2,
@@ -174,20 +174,20 @@ fn members_are_read(rt: HostRuntime) -> Result<(), Fail> {
         2
     );
     assert_eq!(rt;
-        changed(alloc, CLIENT, 7, 1, "now waiting ask 1 state [0]\n")?,
+        change_lines(alloc, CLIENT, 7, 1, "now waiting ask 1 state [0]\n")?,
         7
     );
-    assert_eq!(rt; changed(alloc, CLIENT, 7, 1, "now idle state [0]\n")?, 7);
+    assert_eq!(rt; change_lines(alloc, CLIENT, 7, 1, "now idle state [0]\n")?, 7);
     assert_eq!(rt;
-        changed(alloc, CLIENT, 7, 1, "now waiting ask 0 state [65536]\n")?,
-        7
-    );
-    assert_eq!(rt;
-        changed(alloc, CLIENT, 7, 1, "now waiting ask 0 state [0, 1]\n")?,
+        change_lines(alloc, CLIENT, 7, 1, "now waiting ask 0 state [65536]\n")?,
         7
     );
     assert_eq!(rt;
-        changed(
+        change_lines(alloc, CLIENT, 7, 1, "now waiting ask 0 state [0, 1]\n")?,
+        7
+    );
+    assert_eq!(rt;
+        change_lines(
             alloc,
             SERVER,
             6,
@@ -203,7 +203,7 @@ fn members_are_read(rt: HostRuntime) -> Result<(), Fail> {
 fn runs_are_read(rt: HostRuntime) -> Result<(), Fail> {
     let alloc = rt.alloc();
     let run = "run 0 step 0 path Main.0.65535 procedure 0 clock 0,4294967295 arguments []\n";
-    assert_eq!(rt; changed(alloc, CLIENT, 5, 1, run)?, 0);
+    assert_eq!(rt; change_lines(alloc, CLIENT, 5, 1, run)?, 0);
     for bad in [
         "run 1 step 0 path Main procedure 0 clock 0,0 arguments []\n",
         "run 0 step 1 path Main procedure 0 clock 0,0 arguments []\n",
@@ -215,7 +215,7 @@ fn runs_are_read(rt: HostRuntime) -> Result<(), Fail> {
         "run 0 step 0 path Main procedure 0 clock 0,0 arguments [1]\n",
         "run 0 step 0 path Main procedure 0 clock 0,0 arguments [] \n",
     ] {
-        assert_eq!(rt; changed(alloc, CLIENT, 5, 1, bad)?, 5);
+        assert_eq!(rt; change_lines(alloc, CLIENT, 5, 1, bad)?, 5);
     }
     for bad in [
         "ask 1 step 0 to Counter index 0 procedure 1 arguments [5] state [0]\n",
@@ -225,10 +225,10 @@ fn runs_are_read(rt: HostRuntime) -> Result<(), Fail> {
         "ask 0 step 0 to Counter index 0 procedure 1 arguments [5] state []\n",
         "end 0 step 0 clock 0,0 returned [] state [0]\n",
     ] {
-        assert_eq!(rt; changed(alloc, CLIENT, 6, 1, bad)?, 6);
+        assert_eq!(rt; change_lines(alloc, CLIENT, 6, 1, bad)?, 6);
     }
     assert_eq!(rt;
-        changed(
+        change_lines(
             alloc,
             ENDED,
             10,
@@ -238,7 +238,7 @@ fn runs_are_read(rt: HostRuntime) -> Result<(), Fail> {
         10
     );
     assert_eq!(rt;
-        changed(
+        change_lines(
             alloc,
             ENDED,
             10,
@@ -247,9 +247,9 @@ fn runs_are_read(rt: HostRuntime) -> Result<(), Fail> {
         )?,
         0
     );
-    assert_eq!(rt; changed(alloc, ENDED, 11, 1, "")?, 11);
+    assert_eq!(rt; change_lines(alloc, ENDED, 11, 1, "")?, 11);
     assert_eq!(rt;
-        changed(
+        change_lines(
             alloc,
             ENDED,
             11,
@@ -259,7 +259,7 @@ fn runs_are_read(rt: HostRuntime) -> Result<(), Fail> {
         11
     );
     assert_eq!(rt;
-        changed(
+        change_lines(
             alloc,
             ENDED,
             11,
@@ -275,18 +275,18 @@ fn runs_are_read(rt: HostRuntime) -> Result<(), Fail> {
 fn differences_are_read(rt: HostRuntime) -> Result<(), Fail> {
     let alloc = rt.alloc();
     let other = "differ run 0 ask 0 s1 clock 1,0 returned [5] s1 clock 1,0 returned [TRUE]\n";
-    assert_eq!(rt; changed(alloc, ENDED, 5, 1, other)?, 5);
+    assert_eq!(rt; change_lines(alloc, ENDED, 5, 1, other)?, 5);
     let own = "differ run 0 ask 0 m1 clock 1,0 returned [5] s1 clock 1,0 returned [6]\n";
-    assert_eq!(rt; changed(alloc, ENDED, 5, 1, own)?, 5);
+    assert_eq!(rt; change_lines(alloc, ENDED, 5, 1, own)?, 5);
     let later = "differ run 1 ask 0 s1 clock 1,0 returned [5] s1 clock 1,0 returned [6]\n";
-    assert_eq!(rt; changed(alloc, ENDED, 5, 1, later)?, 12);
+    assert_eq!(rt; change_lines(alloc, ENDED, 5, 1, later)?, 12);
     let last = "differ run 2 ask 0 s1 clock 1,0 returned [5] s1 clock 1,0 returned [6]\n";
-    assert_eq!(rt; changed(alloc, ENDED, 5, 1, last)?, 7);
+    assert_eq!(rt; change_lines(alloc, ENDED, 5, 1, last)?, 7);
     let second = "differ run 0 ask 1 s1 clock 1,0 returned [5] s1 clock 1,0 returned [6]\n";
-    assert_eq!(rt; changed(alloc, ENDED, 5, 1, second)?, 11);
-    assert_eq!(rt; changed(alloc, CLIENT, 4, 0, second)?, 8);
-    assert_eq!(rt; changed(alloc, SERVER, 4, 0, other)?, 4);
-    assert_eq!(rt; changed(alloc, ENDED, 5, 0, "foreign 1 00\n")?, 6);
+    assert_eq!(rt; change_lines(alloc, ENDED, 5, 1, second)?, 11);
+    assert_eq!(rt; change_lines(alloc, CLIENT, 4, 0, second)?, 8);
+    assert_eq!(rt; change_lines(alloc, SERVER, 4, 0, other)?, 4);
+    assert_eq!(rt; change_lines(alloc, ENDED, 5, 0, "foreign 1 00\n")?, 6);
     Ok(())
 }
 
@@ -294,17 +294,17 @@ fn differences_are_read(rt: HostRuntime) -> Result<(), Fail> {
 fn views_are_read(rt: HostRuntime) -> Result<(), Fail> {
     let alloc = rt.alloc();
     assert_eq!(rt;
-        changed(alloc, RING, 5, 1, "ringmaster ring crashed 1\n")?,
+        change_lines(alloc, RING, 5, 1, "ringmaster ring crashed 1\n")?,
         5
     );
-    assert_eq!(rt; changed(alloc, RING, 6, 1, "view Main 1 s1=0\n")?, 6);
-    assert_eq!(rt; changed(alloc, RING, 6, 1, "view Counter 1\n")?, 0);
-    assert_eq!(rt; changed(alloc, RING, 6, 1, "view Counter 1 zz=0\n")?, 6);
+    assert_eq!(rt; change_lines(alloc, RING, 6, 1, "view Main 1 s1=0\n")?, 6);
+    assert_eq!(rt; change_lines(alloc, RING, 6, 1, "view Counter 1\n")?, 0);
+    assert_eq!(rt; change_lines(alloc, RING, 6, 1, "view Counter 1 zz=0\n")?, 6);
     assert_eq!(rt;
-        changed(alloc, RING, 6, 1, "view Counter 1 s1=4294967296\n")?,
+        change_lines(alloc, RING, 6, 1, "view Counter 1 s1=4294967296\n")?,
         6
     );
-    assert_eq!(rt; changed(alloc, RING, 7, 1, "")?, 7);
-    assert_eq!(rt; changed(alloc, RING, 8, 0, "view Main 1\n")?, 8);
+    assert_eq!(rt; change_lines(alloc, RING, 7, 1, "")?, 7);
+    assert_eq!(rt; change_lines(alloc, RING, 8, 0, "view Main 1\n")?, 8);
     Ok(())
 }

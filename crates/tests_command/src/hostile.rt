@@ -78,7 +78,7 @@ fn message(alloc: Global, digits: &str, place: Option<usize>) -> Result<Message,
 // How much the server of a program in a format drops, where these bytes come from the root.
 fn count_dropped(alloc: Global, format: &str, bytes: Message) -> Result<u64, Fail> {
     let server = server(alloc, format)?;
-    let (server, _) = server.step(1, Event::Datagram(2, bytes.shared()?))?;
+    let (server, _) = server.step(1, Event::Datagram(2, bytes.share()?))?;
     Ok(server.dropped())
 }
 

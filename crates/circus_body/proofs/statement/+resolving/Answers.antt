@@ -54,15 +54,15 @@ pub resolve_call-returns-clause-found : goal.resolve_call-returns-clause-found
 resolve_call-returns-clause-found t c =
     let context = context_as c.args.context.now in
     let call = call_of c.args.call.now in
-    let offered = c.called-callee.ensures.offered in
+    let offered = c.called_procedure-callee.ensures.offered in
     let callee = called_faults (context.called call.«module».name) call.«module» call.procedure in
     let arguments = list_faults context (arguments_of (faults_of_call context call)) call.procedure.at call.arguments in
     let results = results_faults context (results_of (faults_of_call context call)) call.into in
     let handlers = handlers_faults context (faults_of_call context call) (handler_trees c.args.call.now.handlers) in
     found_then c.args.found.now c.results.new.found c.handlers_of.new.found (callee ++ arguments ++ results) handlers
     (found_then c.args.found.now c.list.new.found c.results.new.found (callee ++ arguments) results
-    (found_then c.args.found.now c.called-callee.new.found c.list.new.found callee arguments c.called-callee.ensures.found
-    (c.in_ok-arguments.ensures.found ∙ ap (λ s. with_faults c.called-callee.new.found (list_faults context s call.procedure.at call.arguments)) (c.arguments_of-slots.ensures ∙ ap arguments_of offered)))
+    (found_then c.args.found.now c.called_procedure-callee.new.found c.list.new.found callee arguments c.called_procedure-callee.ensures.found
+    (c.in_ok-arguments.ensures.found ∙ ap (λ s. with_faults c.called_procedure-callee.new.found (list_faults context s call.procedure.at call.arguments)) (c.arguments_of-slots.ensures ∙ ap arguments_of offered)))
     (c.in_ok-into.ensures.found ∙ ap (λ s. with_faults c.list.new.found (results_faults context s call.into)) (c.results_of.ensures ∙ ap results_of offered)))
     (c.in_ok-handlers.ensures.found ∙ ap (λ o. with_faults c.results.new.found (handlers_faults context o (handler_trees c.args.call.now.handlers))) offered)
 

@@ -12,4 +12,4 @@ returns-then-sees_word c =
 
 pub returns-else-sees_word : goal.returns-else-sees_word
 returns-else-sees_word c =
-    if_ok c.serving.result _ _ (λ read is. ap (shown module_stands_for) (module_is_serving most_levels c.args.reader.now c.sees_word.result c.sees_word.ensures c.if-sees_word.false) ∙ is) c.serving.ensures
+    if_ok c.serving_module.result _ _ (λ read is. ap (shown module_stands_for) (module_is_serving most_levels c.args.reader.now c.sees_word.result c.sees_word.ensures c.if-sees_word.false) ∙ is) c.serving_module.ensures

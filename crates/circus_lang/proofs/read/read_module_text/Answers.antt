@@ -8,7 +8,7 @@ use Rattle.circus_lang.proofs.read.read_module_text.Goals as goal
 pub overflow_sub-result : goal.overflow_sub-result
 overflow_sub-result c =
     let few = left_few sound_module module_stands_for c.args.text.now c.args.tokens.now c.args.at c.from_token-reader.result c.module_or_root.new.reader (module_of c.in_ok-module.«module») c.from_token-reader.ensures c.in_ok-module.ensures in
-    omega (arith, few, c.len.ensures, c.left.ensures)
+    omega (arith, few, c.len.ensures, c.tokens_left.ensures)
 
 pub returns : goal.returns
 returns c = record {
@@ -16,5 +16,5 @@ returns c = record {
   is =
       answer_is sound_module module_stands_for c.args.text.now c.args.tokens.now c.args.at c.from_token-reader.result c.module_or_root.new.reader (module_of c.in_ok-module.«module») c.stop.result c.from_token-reader.ensures
       c.in_ok-module.ensures c.stop.ensures;
-  next = λ i. c.len.ensures i - c.left.ensures i;
+  next = λ i. c.len.ensures i - c.tokens_left.ensures i;
 }

@@ -8,7 +8,7 @@ use Rattle.circus_syntax.proofs.interface_reading.read_interface_text.Goals as g
 pub overflow_sub-result : goal.overflow_sub-result
 overflow_sub-result c =
     let few = left_few (sound_interface most_levels) (λ t. t) c.args.text.now c.args.tokens.now c.args.at c.from_token-reader.result c.interface.new.self (interface_of c.in_ok-interface.interface) c.from_token-reader.ensures c.in_ok-interface.ensures in
-    omega (arith, few, c.len.ensures, c.left.ensures)
+    omega (arith, few, c.len.ensures, c.tokens_left.ensures)
 
 pub returns : goal.returns
 returns c = record {
@@ -16,5 +16,5 @@ returns c = record {
   is =
       answer_is (sound_interface most_levels) (λ t. t) c.args.text.now c.args.tokens.now c.args.at c.from_token-reader.result c.interface.new.self (interface_of c.in_ok-interface.interface) c.stop.result c.from_token-reader.ensures
       c.in_ok-interface.ensures c.stop.ensures;
-  next = λ i. c.len.ensures i - c.left.ensures i;
+  next = λ i. c.len.ensures i - c.tokens_left.ensures i;
 }

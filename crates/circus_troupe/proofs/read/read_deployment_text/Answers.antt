@@ -6,7 +6,7 @@ use Rattle.circus_troupe.proofs.read.read_deployment_text.Goals as goal
 pub overflow_sub-result : goal.overflow_sub-result
 overflow_sub-result c =
     let few = left_few sound_deployment (λ t. t) c.args.text.now c.args.tokens.now c.args.at c.from_token-reader.result c.deployment.new.reader c.in_ok-deployment.deployment c.from_token-reader.ensures c.in_ok-deployment.ensures in
-    omega (arith, few, c.len.ensures, c.left.ensures)
+    omega (arith, few, c.len.ensures, c.tokens_left.ensures)
 
 pub returns : goal.returns
 returns c = record {
@@ -14,5 +14,5 @@ returns c = record {
   is =
       answer_is sound_deployment (λ t. t) c.args.text.now c.args.tokens.now c.args.at c.from_token-reader.result c.deployment.new.reader c.in_ok-deployment.deployment c.stop.result c.from_token-reader.ensures
       c.in_ok-deployment.ensures c.stop.ensures;
-  next = λ i. c.len.ensures i - c.left.ensures i;
+  next = λ i. c.len.ensures i - c.tokens_left.ensures i;
 }

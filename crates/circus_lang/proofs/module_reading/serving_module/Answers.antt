@@ -2,7 +2,7 @@ use Rattle.std.proofs.Common.{map}
 use Rattle.circus_syntax.specs.Spelling.{most_levels}
 use Rattle.circus_lang.specs.ModuleTree.{variable_of, procedure_of}
 use Rattle.circus_lang.proofs.Steps.{serving_is}
-use Rattle.circus_lang.proofs.module_reading.serving.Goals as goal
+use Rattle.circus_lang.proofs.module_reading.serving_module.Goals as goal
 
 pub returns : goal.returns
 returns c =
