@@ -1,6 +1,6 @@
 -- With the lines of a text up to the one that reading answers no record begins.
 use Rattle.std.specs.List.{AllByRecursion}
-use Rattle.std.proofs.Common.{◌≡◌, ◌∙◌, ℕ, ◌<◌, List, length, map, Option, Some, None, Err, refl}
+use Rattle.std.proofs.Common.{◌≡◌, ℕ, ◌<◌, List, length, map, Option, Some, None, Err, refl}
 use Rattle.circus_text.specs.Form.{IsWord}
 use Rattle.circus_check.specs.Meaning.{ModuleMeant}
 use Rattle.circus_check.specs.Seen.Meant.{module_as}

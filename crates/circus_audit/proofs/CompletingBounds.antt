@@ -1,6 +1,6 @@
 -- A text has no more events, runs and asks than bytes.
 use Rattle.std.specs.List.{AllByRecursion, flat_map}
-use Rattle.std.proofs.Common.{◌≡◌, ◌∙◌, ℕ, ◌+◌, ◌<◌, ◌≤◌, ◌^◌, List, [], ◌∷◌, ◌++◌, length, codes, None, subst, arith, length-append}
+use Rattle.std.proofs.Common.{◌≡◌, ℕ, ◌+◌, ◌<◌, ◌≤◌, ◌^◌, List, [], ◌∷◌, ◌++◌, length, codes, None, subst, arith, length-append}
 use Rattle.std.specs.Fmt.{decimal}
 use Rattle.circus_transfer.specs.declared.joiner.Joiner.TheVariants as joiner
 use Rattle.circus_record.specs.declared.record.AskRecord.{AskRecord}

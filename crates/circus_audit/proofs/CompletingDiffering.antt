@@ -1,7 +1,7 @@
 -- The replies that differ are read, once their asks are known.
 use Rattle.std.specs.List.{AllByRecursion}
 use Rattle.std.specs.Option.{option_map_or}
-use Rattle.std.proofs.Common.{◌≡◌, ◌≢◌, ◌∙◌, ℕ, ◌+◌, ◌-◌, ◌<◌, ◌≤◌, ◌^◌, true, List, [], ◌∷◌, ◌++◌, length, map, slice_get, codes, Option, Some, None, option_map, refl, sym, ap, subst, append_assoc, append-nil, le-leb}
+use Rattle.std.proofs.Common.{◌≡◌, ◌≢◌, ◌∙◌, ℕ, ◌+◌, ◌-◌, ◌<◌, ◌^◌, true, List, [], ◌∷◌, ◌++◌, length, map, slice_get, codes, Option, Some, None, option_map, refl, sym, ap, subst, append_assoc, append-nil, le-leb}
 use Rattle.std.proofs.lemmas.List.{length-map}
 use Rattle.circus_value.specs.ThreadText.{clock_text}
 use Rattle.circus_value.specs.OutcomeText.{outcome_text}

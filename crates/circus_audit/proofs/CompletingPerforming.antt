@@ -10,7 +10,6 @@ use Rattle.circus_value.specs.OutcomeText.{outcome_text}
 use Rattle.circus_value.specs.declared.outcome.Outcome.{Outcome}
 use Rattle.circus_model.specs.Lawful.{procedure_numbered}
 use Rattle.circus_model.specs.declared.signature.Signature.{Signature}
-use Rattle.circus_transfer.specs.declared.joiner.Joiner.TheVariants as joiner
 use Rattle.circus_record.specs.declared.record.AskRecord.{AskRecord}
 use Rattle.circus_record.specs.declared.record.RunRecord.{RunRecord}
 use Rattle.circus_record.specs.Line.{line, reply_line, end_line}
@@ -22,7 +21,6 @@ use Rattle.circus_audit.specs.declared.member_line.Entered.{Entered}
 use Rattle.circus_audit.specs.declared.member_line.Performs.{Performs}
 use Rattle.circus_audit.specs.declared.member_line.Asked.{Asked}
 use Rattle.circus_audit.specs.declared.member_line.After.{After}
-use Rattle.circus_audit.specs.declared.performed.After as performed
 use Rattle.circus_audit.specs.declared.performed.Current.{Current}
 use Rattle.circus_audit.specs.declared.performed.Current.TheVariants.{Nothing, Run, Ask}
 use Rattle.circus_audit.specs.declared.noted.Noted.{Noted}

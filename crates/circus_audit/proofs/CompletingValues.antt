@@ -1,5 +1,5 @@
 -- The texts of values and outcomes that fit are read.
-use Rattle.std.proofs.Common.{◌≡◌, ◌∙◌, ℕ, ◌<◌, ◌^◌, Bool, true, false, ◌&&◌, ◌||◌, List, [], ◌∷◌, ◌++◌, Some, refl, sym, ap, append_assoc}
+use Rattle.std.proofs.Common.{◌≡◌, ◌∙◌, ℕ, Bool, true, false, ◌&&◌, List, [], ◌∷◌, ◌++◌, Some, refl, sym, ap, append_assoc}
 use Rattle.circus_value.specs.ValueTree.{ValueTree, ValueTrees, none, more, value_trees}
 use Rattle.circus_value.specs.ShapeOf.{tree_of}
 use Rattle.circus_value.specs.Fits.{fits, all_fit}

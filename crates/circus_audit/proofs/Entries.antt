@@ -1,10 +1,7 @@
 -- Reading one entry of a view behind another.
-use Rattle.std.proofs.Common.{◌≡◌, ◌∙◌, ℕ, zero, suc, ◌+◌, ◌-◌, ◌<◌, true, false, cond, Option, Some, None, option_map, List, [], ◌∷◌, ◌++◌, refl, sym, ap, arith, append_assoc, append-nil, Err}
+use Rattle.std.proofs.Common.{◌≡◌, ◌∙◌, ℕ, zero, suc, ◌+◌, ◌-◌, ◌<◌, true, false, cond, Option, Some, None, option_map, List, [], ◌∷◌, ◌++◌, refl, sym, ap, arith, append_assoc, append-nil}
 use Rattle.circus_collate.specs.declared.view.Entry.{Entry}
-use Rattle.circus_value_text.specs.declared.unread.Unread.{Unread}
-use Rattle.circus_value_text.specs.declared.unread.Unread.TheVariants as unread
 use Rattle.circus_value_text.specs.Reading.{is_empty}
-use Rattle.circus_value_text.specs.Seen.Given.{Gives, GivesAll}
 use Rattle.circus_audit.specs.Seen.Answers.{found}
 use Rattle.circus_audit.specs.Seen.Views.{entry_read, entries_read, entries_before}
 
@@ -23,20 +20,9 @@ entries_more nodes count i e done text rest all few some next so =
     ∙ ap (λ r. entries_before done (found r (λ x later. option_map (λ es. x ∷ es) (entries_read nodes (count - (i + 1)) later)))) next
     ∙ before_more done e (entries_read nodes (count - (i + 1)) rest)
 
-pub entries_fault : (nodes : List (List ℕ)) (octets : List ℕ) (f : Unread) (count i : ℕ) (done : List Entry) (text : List ℕ) (all : Option (List Entry)) → i < count → is_empty text ≡ false → Gives (λ (e : Entry). e) octets (Err f) (entry_read nodes text) → all ≡ entries_before done (entries_read nodes (count - i) text) → GivesAll {X = List Entry} (Err f) all
-entries_fault nodes octets unread.Unlike count i done text all few some fault so =
-    so ∙ ap (entries_before done) (left_is nodes count i text few some)
-    ∙ ap (λ r. entries_before done (found r (λ x later. option_map (λ es. x ∷ es) (entries_read nodes (count - (i + 1)) later)))) fault
-entries_fault nodes octets unread.NoMemory count i done text all few some fault so = tt
-
 -- nothing is left
 pub entries_end : (nodes : List (List ℕ)) (most : ℕ) (done : List Entry) (text : List ℕ) (all : Option (List Entry)) → is_empty text ≡ true → all ≡ entries_before done (entries_read nodes most text) → all ≡ Some done
 entries_end nodes zero done text all none so = so ∙ ap (λ b. entries_before done (cond b (Some []) None)) none ∙ ap (λ xs. Some xs) (append-nil done)
 entries_end nodes (suc most) done text all none so =
     so ∙ ap (λ b. entries_before done (cond b (Some []) (found (entry_read nodes text) (λ e rest. option_map (λ es. e ∷ es) (entries_read nodes most rest))))) none
     ∙ ap (λ xs. Some xs) (append-nil done)
-
--- something is left
-pub entries_over : (nodes : List (List ℕ)) (most : ℕ) (done : List Entry) (text : List ℕ) (all : Option (List Entry)) → most ≡ 0 → is_empty text ≡ false → all ≡ entries_before done (entries_read nodes most text) → all ≡ None
-entries_over nodes most done text all spent some so =
-    so ∙ ap (λ n. entries_before done (entries_read nodes n text)) spent ∙ ap (λ b. entries_before done (cond b (Some []) None)) some

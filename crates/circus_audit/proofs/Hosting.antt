@@ -4,7 +4,7 @@ use Rattle.std.proofs.lemmas.Option.{slice_get-map}
 use Rattle.circus_limits.specs.Limits.{limit_of}
 use Rattle.circus_model.specs.declared.signature.Signature.{Signature}
 use Rattle.circus_check.specs.declared.checked.ResolvedModule.{ResolvedModule}
-use Rattle.circus_check.specs.Seen.Meant.{module_as}
+use Rattle.circus_check.specs.Resolved.{module_as}
 use Rattle.circus_modules.specs.Signatures.{interface_numbers, signature_of}
 use Rattle.circus_node.specs.Accepting.{troupe_at}
 use Rattle.circus_config.specs.declared.plan.Plan.{Plan}
@@ -35,12 +35,6 @@ hosted_so «module» s = record { «module» = «module»; signature = s }
 
 hosted_at : (plan : Plan) (own : ℕ) (t : Option ℕ) → troupe_at plan.deployment own ≡ t → hosted_by plan own ≡ option_and_then (λ «module». option_map (hosted_so «module») (declared_by plan «module»)) t
 hosted_at plan own t is = ap (option_and_then (λ «module». option_map (hosted_so «module») (declared_by plan «module»))) is
-
-pub hosted_none : (plan : Plan) (own : ℕ) → troupe_at plan.deployment own ≡ None → hosted_by plan own ≡ None
-hosted_none plan own is = hosted_at plan own None is
-
-pub hosted_missing : (plan : Plan) (own number : ℕ) → troupe_at plan.deployment own ≡ Some number → slice_get plan.checked.modules number ≡ None → hosted_by plan own ≡ None
-hosted_missing plan own number is missing = hosted_at plan own (Some number) is ∙ ap (option_map (hosted_so number)) (declared_is plan number None missing)
 
 pub hosted_some : (plan : Plan) (own number : ℕ) (m : ResolvedModule) → troupe_at plan.deployment own ≡ Some number → slice_get plan.checked.modules number ≡ Some m → hosted_by plan own ≡ Some (record { «module» = number; signature = signature_in plan m })
 hosted_some plan own number m is found = hosted_at plan own (Some number) is ∙ ap (option_map (hosted_so number)) (declared_is plan number (Some m) found)

@@ -23,7 +23,6 @@ use Rattle.circus_audit.specs.RecordText.{Noted, IsStray, all_noted_lines, recor
 use Rattle.circus_audit.specs.declared.given.GivenEvent.{GivenEvent}
 use Rattle.circus_audit.specs.declared.given.Given.{Given}
 use Rattle.circus_audit.specs.declared.noted.Differing.{Differing}
-use Rattle.circus_audit.specs.declared.noted.Noted as heard
 use Rattle.circus_audit.specs.declared.noted.Happened.{Happened}
 use Rattle.circus_audit.specs.declared.performed.Current.{Current}
 use Rattle.circus_audit.specs.declared.performed.Current.TheVariants.{Nothing, Run}

@@ -9,7 +9,7 @@ use Rattle.circus_lang.specs.ModuleStanding.{module_stands_for}
 use Rattle.circus_lang.specs.WrittenModule.{WrittenModule, serving, root, IsModule}
 use Rattle.circus_file.specs.ProgramTree.{ProgramTree}
 use Rattle.circus_check.specs.Meaning.{ModuleMeant, modules_meant}
-use Rattle.circus_check.specs.Seen.Meant.{module_as}
+use Rattle.circus_check.specs.Resolved.{module_as}
 use Rattle.circus_config.specs.declared.plan.Plan.{Plan}
 use Rattle.circus_config.specs.Told.{module_names}
 use Rattle.circus_config.specs.Program.{IsProgramOf}

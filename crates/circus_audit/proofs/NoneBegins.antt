@@ -1,5 +1,5 @@
 -- No record at all begins with the lines of a text up to its bad line.
-use Rattle.std.proofs.Common.{◌≡◌, ◌∙◌, ℕ, zero, suc, ◌+◌, ◌<◌, ◌≤◌, ◌⊎◌, inl, inr, List, [], ◌∷◌, ◌++◌, length, map, take, Some, None, refl, sym, ap, arith, length-append}
+use Rattle.std.proofs.Common.{◌≡◌, ◌∙◌, ℕ, zero, suc, ◌+◌, ◌<◌, ◌⊎◌, inl, inr, List, [], ◌∷◌, ◌++◌, length, map, take, Some, None, refl, sym, ap, arith, length-append}
 use Rattle.circus_record.specs.Line.{line}
 use Rattle.circus_node.specs.Accepting.{troupe_at}
 use Rattle.circus_config.specs.declared.plan.Plan.{Plan}

@@ -1,12 +1,12 @@
 -- What is read is the text of what was read.
-use Rattle.std.proofs.Common.{◌≡◌, ◌∙◌, ℕ, ◌-◌, ◌<◌, ◌^◌, Bool, true, false, cond, nat_eq, nat_lt, List, [], ◌∷◌, ◌++◌, length, codes, Some, None, refl, sym, ap, subst, arith, append_assoc}
+use Rattle.std.proofs.Common.{◌≡◌, ◌∙◌, ℕ, ◌-◌, ◌<◌, ◌^◌, Bool, true, false, cond, nat_eq, nat_lt, List, [], ◌∷◌, ◌++◌, length, codes, Some, None, refl, sym, ap, arith, append_assoc}
 use Rattle.std.specs.List.{AllByRecursion}
 use Rattle.std.specs.Fmt.{decimal}
 use Rattle.std.proofs.lemmas.Bool.{eqb-true, ltb-true}
 use Rattle.circus_value.specs.ThreadText.{clock_text}
-use Rattle.circus_value_text.specs.Reading.{Read, and_then, behind_prefix, behind, number_read}
+use Rattle.circus_value_text.specs.Reading.{Read, behind_prefix, behind, number_read}
 use Rattle.circus_value_text.specs.WordReading.{counts_read}
-use Rattle.circus_value_text.proofs.Marks.{pair_is, passed_stands, behind_some, and_then_some}
+use Rattle.circus_value_text.proofs.Marks.{passed_stands, behind_some}
 use Rattle.circus_value_text.proofs.Numbers.{number_sound}
 use Rattle.circus_value_text.proofs.WordsInverse.{clock_sound}
 use Rattle.circus_audit.specs.Seen.Answers.{found, whole, only_if}
@@ -21,22 +21,6 @@ behind_sound mark f t P sound text a rest is =
     let opened = behind_some (behind_prefix mark text) f (a, rest) is in
     let inner = sound opened.0 a rest opened.2 in
     (passed_stands mark text opened.0 opened.1 ∙ ap (λ x. mark ++ x) inner.0 ∙ sym (append_assoc mark (t a) rest), inner.1)
-
--- one behind another
-pub then_sound : {A C : Type 0} (f : List ℕ → Read A) (t : A → List ℕ) (P : A → Type 0) (k : A → List ℕ → Read C) (u : A → C → List ℕ) (Q : A → C → Type 0) → Sounds f t P → ((a : A) → P a → Sounds (k a) (u a) (Q a)) → (text : List ℕ) (c : C) (rest : List ℕ) → and_then (f text) k ≡ Some (c, rest) → (a : A) × (text ≡ (t a ++ u a c) ++ rest) × P a × Q a c
-then_sound f t P k u Q first later text c rest is =
-    let x = and_then_some (f text) k (c, rest) is in
-    let one = first text x.0.0 x.0.1 x.1 in
-    let two = later x.0.0 one.1 x.0.1 c rest x.2 in
-    (x.0.0, one.0 ∙ ap (λ y. t x.0.0 ++ y) two.0 ∙ sym (append_assoc (t x.0.0) (u x.0.0 c) rest), one.1, two.1)
-
--- what is made of what is read
-pub made_sound : {B C : Type 0} (f : List ℕ → Read B) (t : B → List ℕ) (P : B → Type 0) (make : B → C) (u : C → List ℕ) (Q : C → Type 0) → Sounds f t P → ((b : B) → t b ≡ u (make b)) → ((b : B) → P b → Q (make b)) → Sounds (λ text. and_then (f text) (λ b r. Some (make b, r))) u Q
-made_sound f t P make u Q sound texts facts text c rest is =
-    let x = and_then_some (f text) (λ b r. Some (make b, r)) (c, rest) is in
-    let one = sound text x.0.0 x.0.1 x.1 in
-    let parts = pair_is (make x.0.0) c x.0.1 rest x.2 in
-    (one.0 ∙ ap (λ y. y ++ x.0.1) (texts x.0.0) ∙ (λ i. u (parts.0 i) ++ parts.1 i), subst Q parts.0 (facts x.0.0 one.1))
 
 -- a whole line
 pub whole_some : {A : Type 0} (r : Read A) (a : A) → whole r ≡ Some a → (rest : List ℕ) × (r ≡ Some (a, rest)) × (rest ≡ [])

@@ -14,7 +14,7 @@ use Rattle.circus_collate.specs.declared.view.Entry.{Entry}
 use Rattle.circus_collate.specs.declared.view.View.{View}
 use Rattle.circus_model.specs.declared.signature.Signature.{Signature}
 use Rattle.circus_model.specs.Lawful.{arguments_fit, outcome_fits, procedure_numbered, import_takes, import_answers}
-use Rattle.circus_check.specs.Seen.Meant.{module_as}
+use Rattle.circus_check.specs.Resolved.{module_as}
 use Rattle.circus_modules.specs.Signatures.{signature_of, interface_numbers}
 use Rattle.circus_config.specs.declared.plan.Plan.{Plan}
 use Rattle.circus_transfer.specs.declared.joiner.Joiner.{Joiner}

@@ -3,7 +3,7 @@ ghost use Rattle.std.specs.Prelude.{◌≡◌, ◌<◌, ◌≤◌, ◌^◌, leng
 ghost use Rattle.std.specs.List.{AllByRecursion};
 ghost use Rattle.circus_text.specs.Form.{IsWord};
 ghost use Rattle.circus_check.specs.Meaning.{ModuleMeant};
-ghost use Rattle.circus_check.specs.Seen.Meant.{module_as};
+ghost use Rattle.circus_check.specs.Resolved.{module_as};
 ghost use Rattle.circus_config.specs.Program.{IsPlan};
 ghost use Rattle.circus_audit.specs.RecordText.{IsRecordText};
 ghost use Rattle.circus_audit.specs.Seen.Reading as reading;

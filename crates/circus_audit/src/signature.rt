@@ -1,7 +1,7 @@
 // What the module that a node hosts declares.
 ghost use Rattle.std.specs.Prelude.{◌≡◌, map, IfOk};
 ghost use Rattle.circus_model.specs.Agree as agree;
-ghost use Rattle.circus_check.specs.Seen.Meant.{module_as};
+ghost use Rattle.circus_check.specs.Resolved.{module_as};
 ghost use Rattle.circus_modules.specs.Signatures as means;
 ghost use Rattle.circus_audit.specs.Seen.Reading as reading;
 
@@ -48,7 +48,10 @@ fn procedures_offered(
 }
 
 // The number of each module's interface.
-fn interface_numbers(alloc: Global, modules: &[ResolvedModule]) -> Result<Vec<Option<u16>>, NoMemory>
+fn interface_numbers(
+    alloc: Global,
+    modules: &[ResolvedModule],
+) -> Result<Vec<Option<u16>>, NoMemory>
     ensures { IfOk result (λ numbers. numbers.items ≡ map (λ m. m.interface) modules.now) }
 {
     modules.iter().map(|module| module.interface).collect(alloc)

@@ -1,8 +1,7 @@
 -- The bodies of modules in which nothing is wrong are well formed.
-use Rattle.std.proofs.Common.{◌≡◌, ◌≢◌, ℕ, zero, suc, ◌+◌, ◌≤◌, Bool, List, [], ◌∷◌, ◌++◌, length, refl, sym, ◌∙◌, ap, subst, arith, Option, Some, None, ◌⊎◌, inl, inr}
+use Rattle.std.proofs.Common.{◌≡◌, ◌≢◌, ℕ, zero, suc, ◌+◌, ◌≤◌, Bool, List, [], ◌∷◌, ◌++◌, refl, sym, ◌∙◌, ap, subst, arith, Option, Some, None, ◌⊎◌, inl, inr}
 use Rattle.std.specs.Prelude.{slice_get, Contains}
 use Rattle.std.specs.List.{AllByRecursion}
-use Rattle.std.proofs.lemmas.List.{length-map}
 use Rattle.std.proofs.lemmas.Option.{same_Some}
 use Rattle.circus_value.specs.ShapeTree.{ShapeTree, FieldTree, field_trees}
 use Rattle.circus_syntax.specs.declared.named.Named.{Named}
@@ -32,7 +31,7 @@ use Rattle.circus_check.specs.Scope.{variables_of, offered_by, offered_in, calle
 use Rattle.circus_check.specs.Faults.{interface_faults, imports_faults, arguments_of, own_of, unknown_place, forms, fields_of, also_variables, context}
 use Rattle.circus_check.specs.Faults as faults
 use Rattle.circus_check.specs.Meaning.{ModuleMeant, import_numbers, interface_number, body_meant, module_meant, modules_meant}
-use Rattle.circus_check.specs.WellFormed.{IsAt, Implements, Raised, Offers, IsBody}
+use Rattle.circus_check.specs.WellFormed.{Implements, Raised, Offers, IsBody}
 use Rattle.circus_check.specs.WellFormed as checked
 use Rattle.circus_check.proofs.CleanModules.{CleanProcedure}
 use Rattle.circus_check.proofs.CleanVariables.{AreClean}

@@ -16,7 +16,7 @@ use Rattle.circus_check.specs.Faults.{module_faults, faults}
 use Rattle.circus_limits.specs.Limits.{most_modules}
 use Rattle.circus_check.specs.Meaning.{ModuleMeant, module_meant, modules_meant}
 use Rattle.circus_check.specs.Reach.{shared_at}
-use Rattle.circus_check.specs.Seen.Meant.{module_as}
+use Rattle.circus_check.specs.Resolved.{module_as}
 use Rattle.circus_check.specs.Seen.Programs.{modules_in, interfaces_in}
 use Rattle.circus_check.specs.Seen.Progress.{Found, IsProgress}
 use Rattle.circus_check.specs.Seen.Rows.{Tells, shared_as, AreShares}

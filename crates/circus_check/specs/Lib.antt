@@ -9,5 +9,6 @@ pub mod TextOrder
 pub mod Answer
 pub mod Read
 pub mod Meaning
+pub mod Resolved
 pub mod WellFormed
 pub mod Seen

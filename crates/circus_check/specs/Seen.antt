@@ -3,7 +3,6 @@ pub mod Tables
 pub mod Rows
 pub mod Known
 pub mod Scoped
-pub mod Meant
 pub mod Programs
 pub mod Contexts
 pub mod Surroundings

@@ -15,7 +15,7 @@ ghost use Rattle.circus_check.specs.Faults.{faults, first_missing, module_faults
 ghost use Rattle.circus_check.specs.Scope.{implemented_by};
 ghost use Rattle.circus_check.specs.Meaning.{modules_meant, module_meant, interface_number, import_numbers};
 ghost use Rattle.circus_check.specs.Read.{IsRead};
-ghost use Rattle.circus_check.specs.Seen.Meant.{module_as};
+ghost use Rattle.circus_check.specs.Resolved.{module_as};
 ghost use Rattle.circus_check.specs.Seen.Programs.{IsProgram, IsOwn, AreTold, modules_in, interfaces_in};
 ghost use Rattle.circus_check.specs.Seen.Progress.{IsProgress};
 ghost use Rattle.circus_check.specs.Seen.Rows.{shared_as, AreShares};

@@ -17,7 +17,7 @@ ghost use Rattle.circus_check.specs.Scope.{offered_here, implemented_by};
 ghost use Rattle.circus_check.specs.InRange.{AreVariablesInRange};
 ghost use Rattle.circus_check.specs.Faults as faults;
 ghost use Rattle.circus_check.specs.Meaning as meaning;
-ghost use Rattle.circus_check.specs.Seen.Meant.{body_as};
+ghost use Rattle.circus_check.specs.Resolved.{body_as};
 ghost use Rattle.circus_check.specs.Seen.Programs.{IsProgram, IsOwn, modules_in, interfaces_in, place_named, list_now};
 ghost use Rattle.circus_check.specs.Seen.Tables.{those_there, unless_kept};
 ghost use Rattle.circus_check.specs.Seen.Contexts.{context_with};

@@ -7,7 +7,7 @@ use Rattle.circus_record.specs.Line.{line}
 use Rattle.circus_record.specs.Naming.{names_of}
 use Rattle.circus_commands.specs.HistoryLines.{history_text}
 use Rattle.circus_stub.specs.StubsText.{stubs_text}
-use Rattle.circus_check.specs.Seen.Meant.{module_as}
+use Rattle.circus_check.specs.Resolved.{module_as}
 use Rattle.circus_modules.specs.Behaviours.{program_of}
 use Rattle.circus_config.specs.declared.plan.Plan.{Plan}
 use Rattle.circus_limits.specs.Limits.{limit_of}

@@ -1,5 +1,5 @@
 -- What is found of modules and of the deployment over them.
-use Rattle.std.proofs.Common.{◌≡◌, ℕ, ◌⊎◌, inl, inr, List, [], ◌++◌, map, refl, sym, ◌∙◌, ap, subst, Option, Some, None}
+use Rattle.std.proofs.Common.{◌≡◌, ℕ, ◌⊎◌, inl, inr, List, [], map, refl, sym, ◌∙◌, ap, subst, Option, Some, None}
 use Rattle.std.specs.Prelude.{option_map}
 use Rattle.circus_text.specs.Lines.{line_of}
 use Rattle.circus_fault.specs.declared.fault.Fault.{Fault}
@@ -72,10 +72,6 @@ module _ (interfaces : List Interface) (modules : List ModuleTree) (end : ℕ) (
       → least_from rank_of None (looked_faults interfaces modules end d) ≡ Some h
   of_both f g h first second is =
       both (Some (module_told interfaces modules f)) (Some (deployment_told (first_without_troupe (troupe_numbers d.troupes) modules) g)) (told_of_modules f first) (told_of_deployment g second) ∙ sym is
-
-  pub neither : faults interfaces modules ≡ [] → deployment_faults modules end d ≡ [] → looked_faults interfaces modules end d ≡ []
-  neither first second =
-      λ i. map (module_told interfaces modules) (first i) ++ map (deployment_told (first_without_troupe (troupe_numbers d.troupes) modules)) (second i)
 
 -- ---- the answers
 

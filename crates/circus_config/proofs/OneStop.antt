@@ -7,7 +7,6 @@ use Rattle.circus_syntax.specs.declared.stopping.StopCause.TheVariants.{Unexpect
 use Rattle.circus_syntax.specs.Placed.{Placed, Due, AreWithin, StandWithin}
 use Rattle.circus_syntax.specs.Reader.{place_in}
 use Rattle.circus_syntax.specs.Spelling.{most_levels}
-use Rattle.circus_syntax.proofs.Opened.{within_stand}
 use Rattle.circus_expression.specs.Ending.{Are, IsFilledIn}
 use Rattle.circus_file.specs.WrittenProgram.{WrittenProgram, spelling_program, IsProgram}
 use Rattle.circus_config.specs.Program.{IsStopOf, IsReadOf, IsSameStop}
@@ -34,6 +33,12 @@ fronts [] b [] d is = same refl is
 fronts [] b (u ∷ c) d is = longer u c refl is
 fronts (t ∷ a) b [] d is = shorter t a refl (sym is)
 fronts (t ∷ a) b (u ∷ c) d is = behind t u a b c d (head_of t u (a ++ b) (c ++ d) is) (fronts a b c d (rest_of t u (a ++ b) (c ++ d) is))
+
+-- what is due within the levels stands within them
+within_stand : (n : ℕ) (ds : List Due) (ts : List Placed) → AreWithin n ds → StandWithin n ds ts
+within_stand n ds [] within = tt
+within_stand n [] (t ∷ ts) within = tt
+within_stand n (d ∷ ds) (t ∷ ts) within = (within.0, within_stand n ds ts within.1)
 
 -- what stands within does so up to a token
 stand_up_to : (n : ℕ) (ds : List Due) (ts us : List Placed) → StandWithin n ds (ts ++ us) → StandWithin n ds ts

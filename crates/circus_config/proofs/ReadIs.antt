@@ -40,7 +40,7 @@ use Rattle.circus_file.proofs.Whole.{program_whole}
 use Rattle.circus_check.specs.Read.{IsRead}
 use Rattle.circus_check.specs.TextOrder.{AreModulesOf}
 use Rattle.circus_check.specs.Meaning.{modules_meant}
-use Rattle.circus_check.specs.Seen.Meant.{module_as}
+use Rattle.circus_check.specs.Resolved.{module_as}
 use Rattle.circus_deployment.specs.Meaning.{deployment_meant}
 use Rattle.circus_config.specs.declared.program_fault.ProgramCause.TheVariants.{Syntax, Deep}
 use Rattle.circus_check.specs.WellFormed.{AreWellFormed}

@@ -1,5 +1,5 @@
 -- The interfaces of a file and their rules.
-use Rattle.std.proofs.Common.{◌≡◌, ℕ, suc, ◌+◌, ◌≤◌, ◌≢◌, ◌⊎◌, inl, inr, Bool, true, false, cond, List, [], ◌∷◌, ◌++◌, length, map, refl, sym, ◌∙◌, ap, subst, arith, Option, Some, None}
+use Rattle.std.proofs.Common.{◌≡◌, ℕ, suc, ◌+◌, ◌≤◌, ◌≢◌, ◌⊎◌, inl, inr, true, List, [], ◌∷◌, ◌++◌, length, map, refl, sym, ◌∙◌, ap, subst, arith, Option, Some, None}
 use Rattle.std.specs.Prelude.{◌==◌, is_some, option_map, IfNone}
 use Rattle.std.specs.List.{AllByRecursion}
 use Rattle.std.proofs.lemmas.Bool.{eq-eqb}
@@ -10,7 +10,7 @@ use Rattle.circus_syntax.specs.declared.stopping.StopCause.TheVariants.{Unexpect
 use Rattle.circus_syntax.specs.InterfaceTree.{InterfaceTree}
 use Rattle.circus_syntax.specs.Spelling.{IsEach, IsGrammatical}
 use Rattle.circus_fault.specs.declared.fault.Fault.{Fault}
-use Rattle.circus_fault.specs.Least.{is_before, faults_if, lesser, least_from}
+use Rattle.circus_fault.specs.Least.{faults_if, lesser, least_from}
 use Rattle.circus_fault.specs.Stopping.{cause_of, stop_faults}
 use Rattle.circus_fault.specs.Known.{Known, add_name}
 use Rattle.circus_fault.proofs.Items.{none_in}
@@ -68,16 +68,6 @@ fault_told best new x fault fs told (inr (f, least, given)) is =
     is ∙ ap (lesser rank_of best) (told_is interface_answer fault (answer.answer_of f) x (interface_told f) told given (interface_answered f))
     ∙ ap (joined rank_of best) (sym (least_told interfaces_in_order None fs ∙ ap (option_map interface_told) least))
     ∙ least_joined rank_of best (map interface_told fs)
-
--- where a fault is kept, there is one
-pub is_kept : (o : Option Found) (best : Option (Fault ProgramCause)) (x : Fault ProgramCause) (P : Type 0) → option_map fault_of o ≡ lesser rank_of best x → IfNone o P
-is_kept (Some f) best x P is = tt
-is_kept None None x P is = absurd (cc)
-is_kept None (Some b) x P is = absurd (either (is_before rank_of x b) is)
-  where
-    either : (t : Bool) → None ≡ cond t (Some x) (Some b) → ⊥
-    either true same = cc
-    either false same = cc
 
 -- ---- interfaces without a fault
 

@@ -29,7 +29,7 @@ use Rattle.circus_file.specs.WrittenProgram.{WrittenProgram, spelling_program, I
 use Rattle.circus_file.specs.ProgramTree.{ProgramTree, program_stands_for}
 use Rattle.circus_file.specs.ProgramReading.{program}
 use Rattle.circus_check.specs.Meaning.{ModuleMeant, modules_meant}
-use Rattle.circus_check.specs.Seen.Meant.{module_as}
+use Rattle.circus_check.specs.Resolved.{module_as}
 use Rattle.circus_check.specs.WellFormed.{AreWellFormed}
 use Rattle.circus_collate.specs.Deployment.{IsDeployment}
 use Rattle.circus_collate.specs.declared.deployment.Troupe.{Troupe}

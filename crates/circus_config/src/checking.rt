@@ -8,7 +8,7 @@ ghost use Rattle.circus_idl.specs.Obeys.{Obeys};
 ghost use Rattle.circus_file.specs.ProgramTree.{program_of};
 ghost use Rattle.circus_check.specs.Read.{IsRead};
 ghost use Rattle.circus_check.specs.Meaning.{modules_meant};
-ghost use Rattle.circus_check.specs.Seen.Meant.{module_as};
+ghost use Rattle.circus_check.specs.Resolved.{module_as};
 ghost use Rattle.circus_check.specs.WellFormed.{AreWellFormed};
 ghost use Rattle.circus_collate.specs.Deployment.{IsDeployment};
 ghost use Rattle.circus_deployment.specs.Meaning.{deployment_meant};

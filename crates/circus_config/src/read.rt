@@ -3,7 +3,7 @@ ghost use Rattle.std.specs.Prelude.{◌≡◌, ◌⊎◌, ◌≤◌, All, IsAsci
 ghost use Rattle.circus_text.specs.Form.{longest_text};
 ghost use Rattle.circus_text.specs.Token.{IsTokenIn};
 ghost use Rattle.circus_text.specs.Division.{AreTokensOf};
-ghost use Rattle.circus_check.specs.Seen.Meant.{module_as};
+ghost use Rattle.circus_check.specs.Resolved.{module_as};
 ghost use Rattle.circus_check.specs.WellFormed.{AreWellFormed};
 ghost use Rattle.circus_collate.specs.Deployment.{IsDeployment};
 ghost use Rattle.circus_config.specs.declared.program_fault.ProgramFault.{ProgramFault};

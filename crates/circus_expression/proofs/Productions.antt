@@ -746,10 +746,6 @@ abbrev FactorIs : Bool → Written → Type 0
 FactorIs true w = IsMinus w
 FactorIs false w = IsOf 7 w
 
-minus_good : (w : Written) → IsMinus w → IsOf 6 w
-minus_good (minus p w) is = (omega arith, is)
-minus_good _ is = absurd is
-
 pub lawful_factor : (n : ℕ) {o o' : Openers} → LawfulOpeners n o o' → Lawful n (factor_with o) (factor_with o') spelling (IsOf 6) (Stays 6)
 lawful_factor n {o} {o'} L =
     lawful_cased (passes is_minus) n (either_case o.minus (primary_with o)) (either_case o'.minus (primary_with o')) FactorIs branches (lawful_primary n L).levels.filled factor_begins

@@ -1,11 +1,10 @@
 -- Reading one value behind another.
-use Rattle.std.proofs.Common.{◌≡◌, ℕ, suc, ◌+◌, ◌-◌, ◌<◌, ◌≤◌, true, false, cond, nat_eq, Some, None, List, [], ◌∷◌, ◌++◌, length, get_or, drop, map, Err, refl, sym, ap, ◌∙◌, arith, append_assoc, append-nil}
-use Rattle.std.proofs.lemmas.List.{drop_more, drop_all}
+use Rattle.std.proofs.Common.{◌≡◌, ℕ, suc, ◌+◌, ◌-◌, ◌<◌, true, false, cond, nat_eq, Some, None, List, [], ◌∷◌, ◌++◌, drop, map, Err, refl, sym, ap, ◌∙◌, arith, append_assoc}
 use Rattle.circus_value.specs.declared.shape.Field.{Field}
 use Rattle.circus_value.specs.ValueTree.{ValueTree}
 use Rattle.circus_value.specs.ValueTree as V
 use Rattle.circus_value.specs.ShapeTree.{ShapeTree, ArmTree, field_trees, arm_trees}
-use Rattle.circus_value.specs.ShapeOf.{tree_of, field_of}
+use Rattle.circus_value.specs.ShapeOf.{field_of}
 use Rattle.circus_value.specs.Seen.ShapeWeight.{weight, arm_weights}
 use Rattle.circus_value.specs.ArmShape.{arm_shape}
 use Rattle.circus_external.specs.declared.fault.ExternalFault.{ExternalFault}
@@ -55,26 +54,6 @@ items_fault tree octets f item count i at bs done whole few gives is =
 
 abbrev pub fields_left : List Field → ℕ → ℕ → List ℕ → Answer (List ValueTree)
 fields_left gs i at bs = fields_reading (field_trees (map field_of (drop i gs))) at bs
-
-left_is : (gs : List Field) (i at : ℕ) (bs : List ℕ) (g : Field) → i < length gs → g ≡ get_or gs i g → fields_left gs i at bs ≡ and_then (reading (tree_of g.shape) at bs) (λ t next rest. one_more t (fields_left gs (i + 1) next rest))
-left_is gs i at bs g few is =
-    let front : drop i gs ≡ g ∷ drop (i + 1) gs = drop_more gs i g few ∙ ap (λ x. x ∷ drop (i + 1) gs) (sym is) in
-    ap (λ xs. fields_reading (field_trees (map field_of xs)) at bs) front
-
-pub fields_more : (gs : List Field) (i at next : ℕ) (bs rest : List ℕ) (g : Field) (done : List ValueTree) (t : ValueTree) (whole : Answer (List ValueTree)) → i < length gs → g ≡ get_or gs i g → reading (tree_of g.shape) at bs ≡ found t next rest → whole ≡ behind done (fields_left gs i at bs) → whole ≡ behind (done ++ t ∷ []) (fields_left gs (i + 1) next rest)
-fields_more gs i at next bs rest g done t whole few is read all =
-    all ∙ ap (behind done) (left_is gs i at bs g few is)
-    ∙ ap (λ a. behind done (and_then a (λ u m later. one_more u (fields_left gs (i + 1) m later)))) read
-    ∙ behind_more done t (fields_left gs (i + 1) next rest)
-
-pub fields_all : (gs : List Field) (i at : ℕ) (bs : List ℕ) (done : List ValueTree) (whole : Answer (List ValueTree)) → length gs ≤ i → whole ≡ behind done (fields_left gs i at bs) → whole ≡ found done at bs
-fields_all gs i at bs done whole all is =
-    is ∙ ap (λ xs. behind done (fields_reading (field_trees (map field_of xs)) at bs)) (drop_all i gs all) ∙ ap (λ xs. found xs at bs) (append-nil done)
-
-pub fields_fault : {W : Type 0} (tree : W → ValueTree) (octets : List ℕ) (f : ExternalFault) (gs : List Field) (i at : ℕ) (bs : List ℕ) (g : Field) (done : List ValueTree) (whole : Answer (List ValueTree)) → i < length gs → g ≡ get_or gs i g → Gives tree octets (Err f) (reading (tree_of g.shape) at bs) → whole ≡ behind done (fields_left gs i at bs) → Gives (λ ts. ts) octets (Err f) whole
-fields_fault tree octets f gs i at bs g done whole few is gives all =
-    fault_behind tree octets f done (reading (tree_of g.shape) at bs) whole (λ u m later. one_more u (fields_left gs (i + 1) m later)) gives
-    (all ∙ ap (behind done) (left_is gs i at bs g few is))
 
 -- ---- arms
 

@@ -74,8 +74,3 @@ pub record IsSpelling (shape : ShapeTree) (value : ValueTree) (bytes : List ℕ)
 -- one value for each field, in order
 abbrev pub fields_admit : FieldTrees → List ValueTree → Bool
 fields_admit fields ts = fields_fit fields (value_trees ts)
-
--- the bytes are those of a value for each field, one after another
-pub record AreSpelled (fields : FieldTrees) (values : List ValueTree) (bytes : List ℕ) : Type 0 where
-  pub admitted : fields_admit fields values ≡ true
-  pub spelled : bytes ≡ spelling_of_all values

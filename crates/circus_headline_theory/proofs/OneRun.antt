@@ -304,12 +304,6 @@ module _ (b : Beginning) where
       let before = same_acts t u same.0 in
       λ j. with_all (before j) (acts_in_step b (before j) (came_by (same.2 j)) (same.3.0 j))
 
-  same_now : (t u : Trace) → SameBut t u → now t ≡ now u
-  same_now (booted made outputs) (booted others sent) same = refl
-  same_now (booted made outputs) (stepped u n e others sent) same = absurd same
-  same_now (stepped t at event made outputs) (booted others sent) same = absurd same
-  same_now (stepped t at event made outputs) (stepped u n e others sent) same = same.1
-
   sends_then : (t u : Trace) → WasTrace t u → SendsWhatIsOwed b t → SendsWhatIsOwed b u
   sends_then (booted made outputs) u same is = subst (SendsWhatIsOwed b) (sym same) is
   sends_then (stepped t at event made outputs) u (inl same) is = subst (SendsWhatIsOwed b) (sym same) is

@@ -39,7 +39,7 @@ use Rattle.circus_node.specs.Trace.{effects_in, effects_at_boot, Trace}
 use Rattle.circus_member_theory.specs.Past.{Past, booted, now, snapshot_fetched}
 use Rattle.circus_member_theory.specs.First.{first_given}
 use Rattle.circus_member_theory.specs.Timely.{IsTimely}
-use Rattle.circus_member_theory.specs.Living.{after, kept_after, phase_at_boot}
+use Rattle.circus_member_theory.specs.Living.{after, phase_at_boot}
 use Rattle.circus_member_theory.specs.Living as member_living
 use Rattle.circus_member_theory.specs.Snapshots.{began}
 use Rattle.circus_headline_theory.specs.Owed.Living.{made_in, told_in}

@@ -63,13 +63,6 @@ mapped (u ∷ ts) (suc n) t is = mapped ts n t is
 pub size_there : (ts : List ValueTree) (n : ℕ) (t : ValueTree) (sizes : List ℕ) → sizes ≡ map external_size ts → slice_get ts n ≡ Some t → slice_index_or sizes n 0 ≡ external_size t
 size_there ts n t sizes are is = ap (λ xs. slice_index_or xs n 0) are ∙ mapped ts n t is
 
--- a state variable is no greater than the state
-pub within_state : (ts : List ValueTree) (n states : ℕ) (t : ValueTree) → n < states → slice_get ts n ≡ Some t → external_size t ≤ size_of_values (take states ts)
-within_state [] n states t few is = cc
-within_state (u ∷ ts) n zero t few is = absurd (omega (arith, few))
-within_state (u ∷ ts) zero (suc states) t few is = let same : u ≡ t = cc in omega (arith, ap external_size same)
-within_state (u ∷ ts) (suc n) (suc states) t few is = omega (arith, within_state ts n states t (omega (arith, few)) is)
-
 -- a number that is cut at another one
 module _ (most g grows : ℕ) (is : grows ≡ min g most) where
   at_most : grows ≤ g

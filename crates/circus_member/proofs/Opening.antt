@@ -26,7 +26,7 @@ use Rattle.circus_member_rules.specs.Step.{name_of_last, asking_begun, reply_of_
 use Rattle.circus_member.specs.Seen.Within.{opened_last, ended_last}
 use Rattle.circus_member_rules.specs.Callable.{MayCall, IsReply}
 use Rattle.circus_member_rules.specs.Seen.Sound.{IsRunOf, HasTurned}
-use Rattle.circus_member_rules.proofs.Homes.{may_call, slice_get_none}
+use Rattle.circus_member_rules.proofs.Homes.{may_call}
 use Rattle.circus_member_rules.proofs.Runs.{few_asks}
 use Rattle.circus_member_rules.proofs.Writing.{CanWrite, writable_ask, one_is_performing, ask_is_lawful, last_has_ended, reply_is}
 use Rattle.circus_member_rules.proofs.Turned.{IsAsking, asking_now}
@@ -43,14 +43,6 @@ module _ {M : Type 0} (b : Behaviour) (lawful : IsModule b) (m : MemberState M) 
 
   pub turned_asks : (run : RunRecord) (ask : AskRecord) → last_of m.performing.kept.runs ≡ Some run → open_ask m.performing.kept ≡ Some ask → IsAsking b m run ask
   turned_asks run ask at is = asking_now b lawful m run ask at is h.home (turned_run run at) r
-
-  -- the view of its callee is known
-  pub callee_is_known : (run : RunRecord) (ask : AskRecord) → last_of m.performing.kept.runs ≡ Some run → open_ask m.performing.kept ≡ Some ask → slice_get m.known.views ask.callee ≡ None → ⊥
-  callee_is_known run ask at is none =
-      let past = slice_get_none m.known.views ask.callee none in
-      let below = (turned_asks run ask at is).below in
-      let own = h.home.own in
-      omega (arith, past, below, own)
 
   pub written_ask : (ask : AskRecord) → open_ask m.performing.kept ≡ Some ask → CanWrite ask.arguments
   written_ask ask is =

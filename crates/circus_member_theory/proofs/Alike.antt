@@ -1,22 +1,16 @@
 -- All that is said to one ask of the history is equal: no collator of replies differs, and no difference is told.
-use Rattle.std.proofs.Common.{◌≡◌, ◌≢◌, ℕ, ◌<◌, ◌&&◌, Bool, true, false, not, if◌then◌else◌, List, [], ◌∷◌, length, All, Option, Some, None, refl, sym, ap, subst, ◌∙◌, arith}
+use Rattle.std.proofs.Common.{◌≡◌, ℕ, ◌&&◌, Bool, true, false, not, if◌then◌else◌, List, [], ◌∷◌, length, All, Option, Some, None, refl, sym, ap, ◌∙◌}
 use Rattle.std.specs.Prelude.{IfSome, slice_get, option_and_then}
-use Rattle.std.proofs.lemmas.List.Elements.{All-head, All-get_or, All-weaker}
-use Rattle.std.proofs.lemmas.Option.{same_Some, get_or_from_slice_get}
+use Rattle.std.proofs.lemmas.List.Elements.{All-head}
+use Rattle.std.proofs.lemmas.Option.{same_Some}
 use Rattle.circus_value.specs.ValueTree.{ValueTree}
 use Rattle.circus_value.specs.declared.caller.Caller.{Caller}
 use Rattle.circus_header.specs.ReplyEquality.{reply_eq, reply_eq_decides}
 use Rattle.circus_header.specs.declared.answer.Reply.{Reply}
-use Rattle.circus_collate.specs.declared.view.View.{View}
 use Rattle.circus_collate.specs.declared.giving.Said.{Said}
-use Rattle.circus_collate.specs.declared.collating.Collated.TheVariants.{Differ}
-use Rattle.circus_collate.specs.Expecting.{expected_nodes}
-use Rattle.circus_collate.specs.Giving.{have_equal}
-use Rattle.circus_collate.proofs.Staying.{equal_values}
 use Rattle.circus_model.specs.declared.history.Ask.{Ask}
 use Rattle.circus_model.specs.declared.history.Run.{Run}
-use Rattle.circus_model.proofs.Lookups.{within}
-use Rattle.circus_fanout.specs.Asking.{Asking, index_of, answer, differs, is_watchdog}
+use Rattle.circus_fanout.specs.Asking.{Asking, differs, is_watchdog}
 use Rattle.circus_fanout.specs.declared.send.Watched.TheVariants.{Quiet, Differs}
 use Rattle.circus_member_rules.specs.declared.occurrence.AskName.{AskName}
 use Rattle.circus_member_rules.specs.declared.occurrence.Occurrence.{Occurrence}
@@ -44,26 +38,6 @@ module _ (history : List (List Run)) (troupe : ℕ) (first : List ValueTree) (Ca
 
   abbrev Answer : AskName → Said Reply → Type 0
   Answer name s = Answers history troupe first Called name s.value
-
-  said_at : (name : AskName) (said : List (Said Reply)) (place : ℕ) (s : Said Reply) → place < length said → slice_get said place ≡ Some s → All (Answer name) said
-      → Answer name s
-  said_at name said place s below at all = subst (Answer name) (get_or_from_slice_get said place s s at) (All-get_or (Answer name) said place s below all)
-
-  all_equal : (name : AskName) (said : List (Said Reply)) (place : ℕ) → place < length said → All (Answer name) said → have_equal reply_eq said 0 place ≡ true
-  unfolding have_equal
-  all_equal name said place below all =
-      let s = within said 0 (omega (arith, below)) in
-      let t = within said place below in
-      rw (s.1, t.1) (equal_answers name s.0.value t.0.value (said_at name said 0 s.0 (omega (arith, below)) s.1 all) (said_at name said place t.0 below t.1 all))
-
-  pub no_dispute : {M : Type 0} (m : MemberState M) → IsTrueMember history troupe first Called m
-      → All (λ (e : AskName × Asking). (view : View) (down : List ℕ) (one other : ℕ) → answer view down e.1 ≢ Differ one other) m.asks
-  no_dispute m h =
-      All-weaker (λ (e : AskName × Asking). IsTrueAsking history troupe first Called e.0 e.1)
-      (λ (e : AskName × Asking). (view : View) (down : List ℕ) (one other : ℕ) → answer view down e.1 ≢ Differ one other)
-      (λ e t view down one other. equal_values reply_eq (expected_nodes view (index_of e.1.header)) down e.1.said e.1.kind one other
-      (λ place below. all_equal e.0 e.1.said place below t.said))
-      m.asks h.asks
 
   -- ---- watchdogs
 

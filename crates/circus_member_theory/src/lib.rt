@@ -2,7 +2,7 @@
 //!
 //! The definitions are in `specs/`. That copies agree: `Stands.antt` says when a member's record stands in the history of the
 //! unreplicated program, and `Messages.antt` when a call, a reply and a snapshot that cite that history are true; a reader of
-//! the promise needs these alone. `Truth.antt` and `Proper.antt` are for the proof: what stays true of a member of a troupe, over
+//! the promise needs these alone. `Truth.antt` is for the proof: what stays true of a member of a troupe, over
 //! the history, and of what happens to it and what it makes.
 //!
 //! In time: `Past.antt` has what happened and what was known then, `Timely.antt` when a run starts, an ask is answered and a

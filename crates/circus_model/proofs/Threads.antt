@@ -23,7 +23,7 @@ use Rattle.circus_model.specs.Agree.{IsAt, AreModules, Agree}
 use Rattle.circus_model.specs.Execution.{Thread, Order, Performed, Finished, store_state, count_call, is_spent, reply_to_ask, turns_of, next_order, ask_of, replies_of, new_thread, main_order, thread_of, join_runs, run_after_turn, performed_on, record_run, perform}
 use Rattle.circus_model.specs.Seen.Ready.{IsThread, IsOrder}
 use Rattle.circus_model.specs.Seen.Threads.{states_of, thread_seen, order_given, HasPerformed, HasAnswered}
-use Rattle.circus_model.proofs.Turning.{turns, IsUnderWay, IsPerformed, calling, begins, stored_thread}
+use Rattle.circus_model.proofs.Turning.{turns, IsUnderWay, calling, begins, stored_thread}
 use Rattle.circus_model.proofs.Going.{IsKept, refusal, asked, perform_leaves, turns_are}
 
 -- ---- the states that are kept
@@ -150,10 +150,6 @@ module _ (program : List Behaviour) (agree : Agree program) (lawful : AreModules
         reply = λ o b t u made c q a v d p way is call at unspent opened left performed. tt;
         end = λ o b t u made outcome v way is ending opened. tt;
       }
-
-  pub performs : (depth : ℕ) (t : Thread) (o : Order) (b : Behaviour) → o.callee < depth → IsThread program t → IsOrder program o → IsAt program o.callee b → IsPerformed program b o.procedure (perform program depth t o)
-  performs depth t o b below thread order at =
-      (perform_leaves program agree lawful _ _ _ nothing_kept depth t o b below thread order at tt).1
 
   pub begins_on : (o : Order) (b : Behaviour) (t u : Thread) → IsThread program t → IsOrder program o → IsAt program o.callee b → u ≡ store_state t o.callee b.first → IsOn program o b t [] u
   begins_on o b t u thread order at is =

@@ -5,7 +5,7 @@ use Rattle.std.proofs.lemmas.List.{map-append}
 use Rattle.circus_machine.specs.declared.body.Body.{Body as Compiled}
 use Rattle.circus_check.specs.declared.checked.CheckedBody.{CheckedBody}
 use Rattle.circus_check.specs.declared.checked.ResolvedModule.{ResolvedModule}
-use Rattle.circus_check.specs.Seen.Meant.{body_as, module_as}
+use Rattle.circus_check.specs.Resolved.{body_as, module_as}
 use Rattle.circus_modules.specs.Signatures.{interface_numbers}
 use Rattle.circus_modules.specs.Seen.Made.{IsMade, AreMade}
 

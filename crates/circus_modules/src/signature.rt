@@ -1,7 +1,7 @@
 // What modules declare.
 ghost use Rattle.std.specs.Prelude.{◌≡◌, map, IfOk};
 ghost use Rattle.circus_model.specs.Agree as agree;
-ghost use Rattle.circus_check.specs.Seen.Meant.{module_as};
+ghost use Rattle.circus_check.specs.Resolved.{module_as};
 ghost use Rattle.circus_modules.specs.Signatures as means;
 
 use crate::{procedures_of, shapes_of};

@@ -5,7 +5,7 @@ ghost use Rattle.circus_model.specs.Agree.{Agree};
 ghost use Rattle.circus_model.specs.Behaviour.{behaviours};
 ghost use Rattle.circus_limits.specs.Limits.{most_modules, first_limit, most_bytes};
 ghost use Rattle.circus_idl.specs.Obeys.{Obeys};
-ghost use Rattle.circus_check.specs.Seen.Meant.{module_as, body_as};
+ghost use Rattle.circus_check.specs.Resolved.{module_as, body_as};
 ghost use Rattle.circus_check.specs.WellFormed.{AreWellFormed};
 ghost use Rattle.circus_modules.specs.Behaviours.{behaviour_of, program_of};
 ghost use Rattle.circus_modules.specs.Seen.Made.{AreMade, IsSmall, CanBeMade};

@@ -53,9 +53,6 @@ sent_to_goes given w node = by_pair (peer_at w node) refl
     by_pair None is = All-nil (Goes w)
     by_pair (Some p) is = All-map (Goes w) (give_to node) (given p) (λ k datagram at. other_pair w node p is)
 
-nothing_goes : (w : WireState Purpose) (node : ℕ) → AllGo w (gives_of (record { to = node; datagrams = [] }))
-nothing_goes w node = All-nil (Goes w)
-
 answer_goes : (w : WireState Purpose) (caller : Caller) (message : List ℕ) → AllGo w (gives_of (sent_by_answer w caller message))
 answer_goes w caller message = by_test (is_awaited w caller)
   where

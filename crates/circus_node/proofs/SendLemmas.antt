@@ -23,10 +23,6 @@ use Rattle.circus_node.specs.Seen.Sent.{IsHanded}
 
 -- ---- handing over
 
-pub one_more : (s : Sending) (done : List Effect) (e : Effect) (w : WireState Purpose) (gives : List Give)
-    → all_handed s done ≡ sent w gives → all_handed s (done ++ e ∷ []) ≡ hand_over w gives e
-one_more s done e w gives so_far = fold-append next_handed s done (e ∷ []) ∙ ap (λ x. next_handed x e) so_far
-
 spent_stays : (node : ℕ) (es : List Effect) → all_handed (spent node) es ≡ spent node
 spent_stays node [] = refl
 spent_stays node (e ∷ es) = spent_stays node es

@@ -1,17 +1,16 @@
 -- Conditions, as they are read step by step.
 use Rattle.std.proofs.Common.{◌≡◌, ℕ, zero, suc, Bool, true, false, List, [], ◌∷◌, refl, sym, ◌∙◌, ap}
-use Rattle.std.specs.Prelude.{codes}
 use Rattle.circus_text.specs.Token.{Lexeme}
 use Rattle.circus_syntax.specs.declared.stopping.StopCause.TheVariants.{TooDeep}
-use Rattle.circus_syntax.specs.Placed.{is_lexeme, word, sign}
-use Rattle.circus_syntax.specs.Reader.{Reader, next, sees, both, stopped_by}
+use Rattle.circus_syntax.specs.Placed.{is_lexeme}
+use Rattle.circus_syntax.specs.Reader.{Reader, next, sees, stopped_by}
 use Rattle.circus_syntax.specs.Reading.{expect_token}
 use Rattle.circus_syntax.proofs.Sound.{both_is}
 use Rattle.circus_place.specs.Written.{Written}
 use Rattle.circus_place.specs.Written as written
 use Rattle.circus_place.specs.declared.start.AloneStart.{AloneStart}
 use Rattle.circus_place.specs.Grammar.{or_word, and_word}
-use Rattle.circus_place.specs.Reading.{too_deep, no_deeper, alone_start, alone_by, chained, join_chain, chain, negation, further_and, further_or, conjunct, condition, group_behind_not, group_or_relation, with_further, with_further_and, with_further_or}
+use Rattle.circus_place.specs.Reading.{no_deeper, alone_start, alone_by, chained, join_chain, chain, negation, further_and, further_or, conjunct, condition, group_behind_not, group_or_relation, with_further, with_further_and, with_further_or}
 
 chained_none : (operator : Lexeme) (part : Reader → Written × Reader) (further : Reader → List Written × Reader) (r : Reader) (b : Bool) → b ≡ sees (is_lexeme operator) r → b ≡ false → chained operator part further r ≡ ([], r)
 chained_none operator part further r b seen missed = rw (← seen, missed) refl
@@ -96,19 +95,3 @@ pub negated_is : (n : ℕ) (r : Reader) (k l : AloneStart) → k ≡ alone_start
 unfolding negation condition conjunct
 negated_is zero r k l is same = ap (λ m. alone_by (group_behind_not 0) (group_or_relation 0) m r) (sym is ∙ same)
 negated_is (suc n) r k l is same = ap (λ m. alone_by (group_behind_not (suc n)) (group_or_relation (suc n)) m r) (sym is ∙ same)
-
-pub denied_is : (n m : ℕ) (r s t : Reader) (w : Written) → n ≡ suc m → expect_token (word (codes "NOT")) r ≡ (tt, s) → negation m s ≡ (w, t) → group_behind_not n r ≡ (written.not w, t)
-denied_is n m r s t w some first second =
-    ap (λ k. group_behind_not k r) some ∙ ap (λ y. (written.not y.0.1, y.1)) (both_is (expect_token (word (codes "NOT"))) (negation m) r s t tt w first second)
-
-pub grouped_is : (n m : ℕ) (r s t u : Reader) (w : Written) → n ≡ suc m → expect_token (sign (codes "(")) r ≡ (tt, s) → condition m s ≡ (w, t) → expect_token (sign (codes ")")) t ≡ (tt, u) → group_or_relation n r ≡ (written.group w, u)
-grouped_is n m r s t u w some first second last =
-    ap (λ k. group_or_relation k r) some
-    ∙ ap (λ y. (written.group y.0.1.0, y.1))
-    (both_is (expect_token (sign (codes "("))) (both (condition m) (expect_token (sign (codes ")")))) r s u tt (w, tt) first (both_is (condition m) (expect_token (sign (codes ")"))) s t u w tt second last))
-
-pub denied_deep : (n : ℕ) (r : Reader) → n ≡ 0 → group_behind_not n r ≡ too_deep r
-denied_deep n r none = ap (λ k. group_behind_not k r) none
-
-pub grouped_deep : (n : ℕ) (r : Reader) → n ≡ 0 → group_or_relation n r ≡ too_deep r
-grouped_deep n r none = ap (λ k. group_or_relation k r) none

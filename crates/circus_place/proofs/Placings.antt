@@ -60,10 +60,6 @@ present_word = word (codes "PRESENT")
 abbrev pub AtEnd : Option Placed → Type 0
 AtEnd o = o ≡ None
 
-none_left : (ts : List Placed) → first ts ≡ None → ts ≡ []
-none_left [] none = refl
-none_left (t ∷ ts) none = absurd (cc)
-
 abbrev Nothing : Unit {0} → List Due
 Nothing u = []
 

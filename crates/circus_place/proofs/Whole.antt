@@ -34,9 +34,6 @@ reads : (n : ℕ) (ts : List Placed) (tree : PlacingTree) (e : ℕ) → IsPlacin
 reads n ts tree e is within =
     ap (λ l. placing n (reader None l e)) (sym (append-nil ts)) ∙ (lawful_placing n (suc n) (omega arith)).complete.reads tree ts [] e (is.grammatical, within) is.spelled refl
 
-pub placing_read : (ts : List Placed) (tree : PlacingTree) (e : ℕ) → IsPlacing ts tree → IsWithin most_levels tree → placing most_levels (reader None ts e) ≡ (tree, reader None [] e)
-placing_read ts tree e is within = reads most_levels ts tree e is within
-
 pub placing_one : (ts : List Placed) (tree other : PlacingTree) → IsPlacing ts tree → IsPlacing ts other → tree ≡ other
 placing_one ts tree other first_is second_is =
     let (n, above, within) = enough_for tree in

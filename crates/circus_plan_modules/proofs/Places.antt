@@ -1,11 +1,8 @@
 -- What stands at places of lists, and of their images.
-use Rattle.std.proofs.Common.{◌≡◌, ℕ, zero, suc, List, [], ◌∷◌, Some, map, refl, sym, subst, inl, inr}
-use Rattle.std.specs.Prelude.{Contains, slice_get}
+use Rattle.std.proofs.Common.{◌≡◌, ℕ, zero, suc, List, [], ◌∷◌, Some, map, refl, sym, subst}
+use Rattle.std.specs.Prelude.{slice_get}
 use Rattle.std.specs.List.{AllByRecursion}
 use Rattle.std.proofs.lemmas.Option.{same_Some}
-use Rattle.circus_fault.proofs.Items.{contains_first, contains_later}
-use Rattle.circus_check.proofs.Declared.{contains_cases}
-use Rattle.circus_modules.proofs.Found.{contains_none}
 
 -- what holds of each holds of the one at a place
 pub at_place : {X : Type 0} (P : X → Type 0) (xs : List X) → AllByRecursion P xs → (n : ℕ) (x : X) → slice_get xs n ≡ Some x → P x
@@ -23,16 +20,3 @@ pub of_map : {X Y : Type 0} (f : X → Y) (xs : List X) (place : ℕ) (y : Y) �
 of_map f [] place y is = absurd (cc)
 of_map f (x ∷ xs) zero y is = record { item = x; there = refl; is = sym (same_Some (f x) y is) }
 of_map f (x ∷ xs) (suc n) y is = let o = of_map f xs n y is in record { item = o.item; there = o.there; is = o.is }
-
--- what is among images is the image of what is among the others
-pub record Among {X Y : Type 0} (f : X → Y) (xs : List X) (y : Y) : Type 0 where
-  pub item : X
-  pub there : Contains xs item
-  pub is : y ≡ f item
-
-pub among_map : {X Y : Type 0} (f : X → Y) (xs : List X) (y : Y) → Contains (map f xs) y → Among f xs y
-among_map f [] y there = absurd (contains_none y there)
-among_map f (x ∷ xs) y there = elim (contains_cases (f x) (map f xs) y there) [
-  | inl same ↦ record { item = x; there = contains_first x xs; is = sym same }
-  | inr later ↦ let a = among_map f xs y later in record { item = a.item; there = contains_later x xs a.item a.there; is = a.is }
-]

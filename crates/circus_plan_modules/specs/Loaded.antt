@@ -1,8 +1,8 @@
 -- What the modules of a plan do.
-use Rattle.std.specs.Prelude.{ℕ, List, map, slice_get, Option, option_and_then}
+use Rattle.std.specs.Prelude.{List, map, slice_get, Option, option_and_then}
 use Rattle.circus_collate.specs.declared.deployment.Host.{Host}
 use Rattle.circus_model.specs.Behaviour.{Behaviour}
-use Rattle.circus_check.specs.Seen.Meant.{module_as}
+use Rattle.circus_check.specs.Resolved.{module_as}
 use Rattle.circus_modules.specs.Behaviours.{program_of}
 use Rattle.circus_config.specs.declared.plan.Plan.{Plan}
 use Rattle.circus_limits.specs.Limits.{limit_of}

@@ -8,7 +8,7 @@ use Rattle.circus_model.specs.Behaviour.{IsModule}
 use Rattle.circus_idl.specs.Obeys.{Obeys}
 use Rattle.circus_idl.specs.declared.interface.Interface.{Interface}
 use Rattle.circus_check.specs.Meaning.{ModuleMeant}
-use Rattle.circus_check.specs.Seen.Meant.{module_as}
+use Rattle.circus_check.specs.Resolved.{module_as}
 use Rattle.circus_check.specs.WellFormed as checked
 use Rattle.circus_check.specs.WellFormed.{AreWellFormed}
 use Rattle.circus_modules.specs.Signatures.{interface_numbers}

@@ -1,6 +1,6 @@
 -- The modules of a plan are those of its troupes.
 use Rattle.std.proofs.Common.{◌≡◌, List, [], ◌∷◌, map, refl, sym, ap, subst}
-use Rattle.circus_check.specs.Seen.Meant.{module_as}
+use Rattle.circus_check.specs.Resolved.{module_as}
 use Rattle.circus_model.specs.Agree.{Agree}
 use Rattle.circus_model.specs.Behaviour.{Behaviour}
 use Rattle.circus_config.specs.declared.plan.Plan.{Plan}

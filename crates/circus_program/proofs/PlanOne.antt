@@ -1,14 +1,13 @@
 -- A file means one plan.
 use Rattle.std.proofs.Common.{◌≡◌, ℕ, List, [], ◌∷◌, map, refl, sym, ap, subst, ◌∙◌}
 use Rattle.std.specs.List.{AllByRecursion}
-use Rattle.std.proofs.Math.Logic.{∥∥₁_prop}
 use Rattle.circus_idl.specs.declared.interface.Interface.{Interface}
 use Rattle.circus_idl.specs.Obeys.{Obeys}
 use Rattle.circus_check.specs.declared.checked.CheckedBody.{CheckedBody}
 use Rattle.circus_check.specs.declared.checked.Checked.{Checked}
 use Rattle.circus_check.specs.declared.checked.ResolvedModule.{ResolvedModule}
 use Rattle.circus_check.specs.Meaning.{BodyMeant, ModuleMeant}
-use Rattle.circus_check.specs.Seen.Meant.{body_as, module_as}
+use Rattle.circus_check.specs.Resolved.{body_as, module_as}
 use Rattle.circus_check.specs.WellFormed.{AreWellFormed}
 use Rattle.circus_config.specs.declared.plan.Plan.{Plan}
 use Rattle.circus_config.specs.Program.{IsProgramOf, SaysSame}

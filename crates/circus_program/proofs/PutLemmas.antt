@@ -1,9 +1,9 @@
 -- The clauses of the top call.
-use Rattle.std.proofs.Common.{◌≡◌, ℕ, ◌⊎◌, ◌==◌, false, if◌then◌else◌, Option, List, sym, subst, ap, ◌∙◌, inl, inr, refl}
+use Rattle.std.proofs.Common.{◌≡◌, ℕ, ◌⊎◌, false, Option, List, sym, subst, ap, ◌∙◌, inl, inr, refl}
 use Rattle.std.specs.Prelude.{IsTrue}
 use Rattle.circus_commands.specs.declared.status.Status.{Status}
-use Rattle.circus_commands.specs.declared.status.Status.TheVariants.{Done, BadCommandLine, BadProgram, BadSchedule, ShelfFault, SinkFault, LinkFault, NoMemory, Spent, Unsettled, BadPlacing, NoPlacement, BadRecord}
-use Rattle.circus_commands.specs.Status.{code_of, is_end}
+use Rattle.circus_commands.specs.declared.status.Status.TheVariants.{ShelfFault, SinkFault, LinkFault, NoMemory}
+use Rattle.circus_commands.specs.Status.{is_end}
 use Rattle.circus_outside.specs.Faults.{Rose}
 use Rattle.circus_report.specs.Writing.{Writes, WritesPart}
 use Rattle.circus_program.specs.declared.answer.Step.{Step}
@@ -22,39 +22,6 @@ use Rattle.circus_program.specs.Seen.Step.{due_of, IsWrittenOf, IsPutStep, IsSer
 use Rattle.circus_report.proofs.ToldLemmas.{WritesPart-all}
 use Rattle.circus_program.proofs.ReplayEnds.{end_by_is_end}
 use Rattle.circus_program.proofs.DueKinds.{never_linked, serves_asked}
-
--- the status with a number
-status_of : ℕ → Status
-status_of n =
-    if n == 0 then Done
-    else (if n == 1 then BadCommandLine
-    else (if n == 2 then BadProgram
-    else (if n == 3 then BadSchedule
-    else (if n == 4 then ShelfFault
-    else (if n == 5 then SinkFault
-    else (if n == 6 then LinkFault
-    else (if n == 7 then NoMemory
-    else (if n == 8 then Spent
-    else (if n == 10 then Unsettled
-    else (if n == 11 then BadPlacing
-    else (if n == 12 then NoPlacement
-    else BadRecord)))))))))))
-
-status_of-code_of : (s : Status) → status_of (code_of s) ≡ s
-unfolding status_of
-status_of-code_of Done = refl
-status_of-code_of BadCommandLine = refl
-status_of-code_of BadProgram = refl
-status_of-code_of BadSchedule = refl
-status_of-code_of ShelfFault = refl
-status_of-code_of SinkFault = refl
-status_of-code_of LinkFault = refl
-status_of-code_of NoMemory = refl
-status_of-code_of Spent = refl
-status_of-code_of Unsettled = refl
-status_of-code_of BadPlacing = refl
-status_of-code_of NoPlacement = refl
-status_of-code_of BadRecord = refl
 
 -- what is no end
 no_end : (s : Status) → is_end s ≡ false → IsTrue (is_end s) → ⊥

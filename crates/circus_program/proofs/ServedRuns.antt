@@ -1,5 +1,5 @@
 -- A node of a plan that is served to its end is a node run.
-use Rattle.std.proofs.Common.{◌≡◌, ◌↔◌, ◌≤◌, ◌⊎◌, ℕ, inl, inr, List, [], ◌∷◌, ◌++◌, length, map, All, Option, None, Some, Ok, refl, sym, ap, subst, ◌∙◌, arith, append-nil}
+use Rattle.std.proofs.Common.{◌≡◌, ◌≤◌, ◌⊎◌, ℕ, inl, inr, List, [], ◌∷◌, ◌++◌, length, map, All, Option, None, Some, Ok, refl, sym, ap, subst, ◌∙◌, arith, append-nil}
 use Rattle.std.specs.Prelude.{IsSome, slice_get, option_map, option_and_then}
 use Rattle.std.proofs.lemmas.Option.{none-some, same_Some, slice_get-map, slice_get_within}
 use Rattle.circus_collate.specs.declared.deployment.Host.{Host}
@@ -19,7 +19,7 @@ use Rattle.circus_outside.specs.Link.{Taken, failed, taken_of}
 use Rattle.circus_outside.specs.declared.link.TakenFrom.{TakenFrom}
 use Rattle.circus_serve.specs.declared.happening.Happening.{Happening}
 use Rattle.circus_serve.specs.Happened.{given_in}
-use Rattle.circus_serve.specs.Serving.{Progress, happened_by, serve_takes}
+use Rattle.circus_serve.specs.Serving.{happened_by, serve_takes}
 use Rattle.circus_serve.specs.Outside.{Tells, IsAsked}
 use Rattle.circus_serve.specs.Recorded.{Recorded}
 use Rattle.circus_serve.specs.Answers.{asked_of_link, IsServed, IsPartGiven}
@@ -132,9 +132,6 @@ module _ (plan : Plan) (is : IsPlan plan) (node turns : ℕ) (old new : Tells) w
     none_failed : (takes : List TakenFrom) (given : List (ℕ × List ℕ)) → IsAsked old new (asked_of_link plan.deployment node (map taken_of takes) given)
         → IsAsked old new (asked_of_link plan.deployment node (map taken_of takes ++ []) given)
     none_failed takes given link = subst (λ (l : List Taken). IsAsked old new (asked_of_link plan.deployment node l given)) (sym (append-nil (map taken_of takes))) link
-
-    abbrev after : List TakenFrom → Progress Behaviour
-    after takes = serve_takes declared_of turn_of plan.deployment node boot.0 boot.1.gives takes
 
     -- a part of it
     gave_part : (takes : List TakenFrom) (given : List (ℕ × List ℕ)) → IsPartGiven declared_of turn_of plan.deployment node boot.0 boot.1.gives takes given

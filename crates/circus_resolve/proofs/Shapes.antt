@@ -1,13 +1,10 @@
 -- Shapes against shapes, part by part.
 use Rattle.std.specs.Prelude.{option_map, slice_get}
-use Rattle.std.proofs.Common.{◌≡◌, ℕ, zero, suc, ◌+◌, ◌<◌, Bool, true, false, IsTrue, ◌↔◌, ◌&&◌, bytes_eq, ◌==◌, List, [], ◌∷◌, length, get_or, drop, map, refl, sym, ap, ◌∙◌}
+use Rattle.std.proofs.Common.{◌≡◌, ℕ, zero, suc, ◌+◌, ◌<◌, Bool, true, false, IsTrue, ◌↔◌, ◌&&◌, bytes_eq, ◌==◌, List, [], ◌∷◌, length, get_or, drop, refl, sym, ap, ◌∙◌}
 use Rattle.std.proofs.Math.Bool.{and-false}
 use Rattle.std.proofs.lemmas.List.{drop_more}
 use Rattle.circus_value.specs.declared.shape.Label.{Label}
-use Rattle.circus_value.specs.declared.shape.Field.{Field}
-use Rattle.circus_value.specs.declared.shape.Arm.{Arm}
 use Rattle.circus_value.specs.ShapeTree.{FieldTree, ArmTree, «record», field_trees, arm_trees}
-use Rattle.circus_value.specs.ShapeOf.{tree_of, field_of, arm_of}
 use Rattle.circus_resolve.specs.Named.{is_bare}
 use Rattle.circus_resolve.specs.Faults.{field_at, field_count}
 use Rattle.circus_resolve.specs.Same.{labels_eq, shape_eq, fields_eq, arms_eq}
@@ -40,21 +37,6 @@ arms_differ (x ∷ xs) (y ∷ ys) differs =
 -- a list from a place on
 pub from_place : {X : Type 0} (xs : List X) (i : ℕ) (x : X) → i < length xs → x ≡ get_or xs i x → drop i xs ≡ x ∷ drop (i + 1) xs
 from_place xs i x below is = drop_more xs i x below ∙ ap (λ y. y ∷ drop (i + 1) xs) (sym is)
-
--- the parts at a place, and those behind them
-pub labels_step : (ls ms : List Label) (i : ℕ) (l m : Label) → i < length ls → i < length ms → l ≡ get_or ls i l → m ≡ get_or ms i m
-    → labels_eq (drop i ls) (drop i ms) ≡ (bytes_eq l.name m.name && (l.number == m.number) && labels_eq (drop (i + 1) ls) (drop (i + 1) ms))
-labels_step ls ms i l m few many is is' = λ j. labels_eq (from_place ls i l few is j) (from_place ms i m many is' j)
-
-pub fields_step : (fs gs : List Field) (i : ℕ) (f g : Field) → i < length fs → i < length gs → f ≡ get_or fs i f → g ≡ get_or gs i g
-    → fields_eq (field_trees (map field_of (drop i fs))) (field_trees (map field_of (drop i gs)))
-    ≡ (bytes_eq f.name g.name && shape_eq (tree_of f.shape) (tree_of g.shape) && fields_eq (field_trees (map field_of (drop (i + 1) fs))) (field_trees (map field_of (drop (i + 1) gs))))
-fields_step fs gs i f g few many is is' = λ j. fields_eq (field_trees (map field_of (from_place fs i f few is j))) (field_trees (map field_of (from_place gs i g many is' j)))
-
-pub arms_step : (xs ys : List Arm) (i : ℕ) (x y : Arm) → i < length xs → i < length ys → x ≡ get_or xs i x → y ≡ get_or ys i y
-    → arms_eq (arm_trees (map arm_of (drop i xs))) (arm_trees (map arm_of (drop i ys)))
-    ≡ (bytes_eq x.name y.name && (x.number == y.number) && shape_eq (tree_of x.shape) (tree_of y.shape) && arms_eq (arm_trees (map arm_of (drop (i + 1) xs))) (arm_trees (map arm_of (drop (i + 1) ys))))
-arms_step xs ys i x y few many is is' = λ j. arms_eq (arm_trees (map arm_of (from_place xs i x few is j))) (arm_trees (map arm_of (from_place ys i y many is' j)))
 
 -- a record that has no fields
 pub bare_is : (b : Bool) (fs : List FieldTree) → (IsTrue b ↔ (fs ≡ [])) → b ≡ is_bare («record» (field_trees fs))

@@ -175,10 +175,7 @@ impl Findings {
                 let field = field_named(fields, name.name.as_slice());
                 self.note(field.is_none(), name.at, CheckCause::Unknown);
                 match field {
-                    Some(field) => (
-                        CheckedSuffix::Field(field.place),
-                        Some(field.shape),
-                    ),
+                    Some(field) => (CheckedSuffix::Field(field.place), Some(field.shape)),
                     None => (CheckedSuffix::Field(0), None),
                 }
             }

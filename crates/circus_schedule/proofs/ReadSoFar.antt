@@ -1,12 +1,11 @@
 -- Schedules that are read line by line: what was read so far, and what is left.
-use Rattle.std.proofs.Common.{◌≡◌, ◌∙◌, ◌+◌, ◌≤◌, ◌++◌, ℕ, List, [], ◌∷◌, length, ap, refl, sym, subst, arith}
+use Rattle.std.proofs.Common.{◌≡◌, ◌∙◌, ◌+◌, ◌≤◌, ◌++◌, ℕ, List, [], ◌∷◌, length, ap, sym, arith}
 use Rattle.std.specs.List.{AllZip}
-use Rattle.std.proofs.lemmas.List.{append-nil, append_assoc, length_push}
+use Rattle.std.proofs.lemmas.List.{append_assoc, length_push}
 use Rattle.circus_schedule.specs.TextLines.{lines_of}
 use Rattle.circus_schedule.specs.Meaning.{Numbers, IsReadAs}
-use Rattle.circus_schedule.specs.Answer.{most_lines, HasFault, AreReadAs, IsFirstFault}
+use Rattle.circus_schedule.specs.Answer.{most_lines, AreReadAs}
 use Rattle.circus_schedule.specs.declared.line.Line.{Line}
-use Rattle.circus_schedule.specs.declared.schedule_fault.ScheduleFault.{ScheduleFault}
 
 -- so many lines were read, and the rest is left
 pub record IsReadSoFar (numbers : Numbers) (text : List ℕ) (lines : List Line) (number : ℕ) (rest : List ℕ) : Type 0 where
@@ -14,9 +13,6 @@ pub record IsReadSoFar (numbers : Numbers) (text : List ℕ) (lines : List Line)
   pub divided : lines_of text ≡ before ++ lines_of rest
   pub good : AreReadAs numbers before lines
   pub count : length before ≡ number
-
-pub IsReadSoFar-start : (numbers : Numbers) (text : List ℕ) → IsReadSoFar numbers text [] 0 text
-IsReadSoFar-start numbers text = record { before = []; divided = refl; good = record { each = tt; few = omega arith }; count = refl }
 
 each_more : (numbers : Numbers) (texts : List (List ℕ)) (lines : List Line) (text : List ℕ) (line : Line) → AllZip (IsReadAs numbers) texts lines → IsReadAs numbers text line → AllZip (IsReadAs numbers) (texts ++ text ∷ []) (lines ++ line ∷ [])
 each_more numbers [] [] text line each read = (read, tt)
@@ -35,23 +31,4 @@ IsReadSoFar-more numbers text lines number rest first after line so_far next few
     few = omega (arith, length_push so_far.before first, so_far.count);
   };
   count = length_push so_far.before first ∙ ap (λ (n : ℕ). n + 1) so_far.count;
-}
-
--- where nothing is left, the lines so far are the schedule
-pub IsAnswer-read : (numbers : Numbers) (text : List ℕ) (lines : List Line) (number : ℕ) (rest : List ℕ) → IsReadSoFar numbers text lines number rest → rest ≡ [] → AreReadAs numbers (lines_of text) lines
-IsAnswer-read numbers text lines number rest so_far none =
-    let whole = so_far.divided ∙ ap (λ (left : List ℕ). so_far.before ++ lines_of left) none ∙ append-nil so_far.before in
-    subst (λ (texts : List (List ℕ)). AreReadAs numbers texts lines) (sym whole) so_far.good
-
--- where the next line has a fault, it is the first one
-pub IsAnswer-fault : (numbers : Numbers) (text : List ℕ) (lines : List Line) (number : ℕ) (rest first after : List ℕ) (fault : ScheduleFault) → IsReadSoFar numbers text lines number rest → lines_of rest ≡ first ∷ lines_of after → HasFault numbers (number + 1) first fault
-    → IsFirstFault numbers (lines_of text) fault
-IsAnswer-fault numbers text lines number rest first after fault so_far next faulty = record {
-  before = so_far.before;
-  lines = lines;
-  text = first;
-  after = lines_of after;
-  divided = so_far.divided ∙ ap (λ (more : List (List ℕ)). so_far.before ++ more) next;
-  good = so_far.good;
-  faulty = subst (λ (n : ℕ). HasFault numbers (n + 1) first fault) (sym so_far.count) faulty;
 }

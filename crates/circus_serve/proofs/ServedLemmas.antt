@@ -35,10 +35,6 @@ then_none : {M : Type 0} (p : Progress M) → and_then (λ s. on s) p ≡ p
 then_none (on s) = refl
 then_none (spent node happened) = refl
 
-then_then : {M : Type 0} (f g : Served M → Progress M) (p : Progress M) → and_then (λ s. and_then g (f s)) p ≡ and_then g (and_then f p)
-then_then f g (on s) = refl
-then_then f g (spent node happened) = refl
-
 on_before : {M : Type 0} (f : Served M → Progress M) (p : Progress M) (t : Served M) → and_then f p ≡ on t → (s : Served M) × (p ≡ on s)
 on_before f (on s) t is = (s, refl)
 on_before f (spent node happened) t is = cc

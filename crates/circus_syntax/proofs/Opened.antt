@@ -82,11 +82,6 @@ pub within_more : (n m : ℕ) → n ≤ m → (ds : List Due) → AreWithin n ds
 within_more n m le [] within = tt
 within_more n m le (d ∷ ds) within = (omega (arith, within.0), within_more n m le ds within.1)
 
-pub within_stand : (n : ℕ) (ds : List Due) (ts : List Placed) → AreWithin n ds → StandWithin n ds ts
-within_stand n ds [] within = tt
-within_stand n [] (t ∷ ts) within = tt
-within_stand n (d ∷ ds) (t ∷ ts) within = (within.0, within_stand n ds ts within.1)
-
 pub stand_all : (n : ℕ) (ds : List Due) (ts : List Placed) → length ts ≡ length ds → StandWithin n ds ts → AreWithin n ds
 stand_all n [] ts same front = tt
 stand_all n (d ∷ ds) [] same front = absurd (omega arith)

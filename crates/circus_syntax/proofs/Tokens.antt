@@ -197,11 +197,6 @@ complete_quoted = complete_token is_text (λ t. (content_of t.bytes, t.start)) (
     back a (t ∷ []) good d = (t, refl, rw d.0.0 refl, λ i. ((ap content_of d.0.1 ∙ content_in a.0) i, d.0.2 i))
     back a (t ∷ u ∷ ts) good d = absurd d.1
 
--- the due string passes
-pub opens_text : (content : List ℕ) (at : ℕ) (ds : List Due) (ts rest : List Placed) → AreDue (due_text content at ∷ ds) ts → passes is_text (first (ts ++ rest)) ≡ true
-opens_text content at ds [] rest d = absurd d
-opens_text content at ds (t ∷ ts) rest d = rw d.0.0 refl
-
 -- Which productions take a token.
 
 pub shrinks_token : {A : Type 0} (test : Placed → Bool) (read : Placed → A) (fill : ℕ → A) → Shrinks test (token test read fill)

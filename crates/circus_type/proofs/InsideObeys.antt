@@ -6,7 +6,7 @@ use Rattle.std.proofs.lemmas.List.{map-append}
 use Rattle.std.proofs.lemmas.Bool.{or_parts}
 use Rattle.std.proofs.lemmas.Grind.{common_steps}
 use Rattle.circus_value.specs.declared.shape.Label.{Label}
-use Rattle.circus_value.specs.ShapeTree.{ShapeTree, FieldTree, ArmTree, FieldTrees, field_trees, arm_trees}
+use Rattle.circus_value.specs.ShapeTree.{ShapeTree, FieldTree, field_trees, arm_trees}
 use Rattle.circus_value.specs.ShapeTree as shape
 use Rattle.circus_syntax.specs.declared.named.Named.{Named}
 use Rattle.circus_syntax.specs.declared.named.Numeral.{Numeral}

@@ -13,7 +13,6 @@ use Rattle.circus_syntax.specs.declared.named.Named.{Named}
 use Rattle.circus_syntax.specs.declared.named.TypeName.{TypeName}
 use Rattle.circus_syntax.specs.TypeTree.{TypeTree, GroupTrees, boolean, cardinal, long_cardinal, integer, long_integer, text, enumeration, array, sequence, «record», choice, called, no_groups, more_groups}
 use Rattle.circus_syntax.specs.TypeTree as syntax
-use Rattle.circus_type.specs.declared.measuring.Measure.{Measure}
 use Rattle.circus_type.specs.Written.{parts, field_parts, arm_parts, levels, field_levels, arm_levels, zero_size, zero_value, zero_values, copies}
 use Rattle.circus_type.specs.Together.{shapes_of, zero_size_of}
 use Rattle.circus_type.specs.Meaning.{bound_of, label_meant, fields_named, shape_of_type, written_groups, written_arms}

@@ -39,14 +39,6 @@ all_digits (b ∷ text) = by_digit (is_ascii_digit b) refl (all_digits text)
     by_digit true is others = rw one-add (digit_value_small b (take (prefix_len is_ascii_digit text) text) is others)
     by_digit false is others = tt
 
-pub prefix_within : (text : List ℕ) → prefix_len is_ascii_digit text ≤ length text
-prefix_within [] = omega arith
-prefix_within (b ∷ text) = by_digit (is_ascii_digit b) (prefix_within text)
-  where
-    by_digit : (is : Bool) → prefix_len is_ascii_digit text ≤ length text → cond is (1 + prefix_len is_ascii_digit text) 0 ≤ length (b ∷ text)
-    by_digit true others = omega (arith, others)
-    by_digit false others = omega arith
-
 -- ---- numerals
 
 begins_numeral : (digits : List ℕ) → 0 < length digits → (get_or digits 0 0 ≡ 48 → length digits ≡ 1) → is_numeral digits ≡ true

@@ -91,10 +91,6 @@ octet_sound (c ∷ text) b rest is = by_mark (nat_eq c 92) refl is
 
 -- ---- the bytes of a string
 
--- no byte of a string stands there
-no_octet : (rest : List ℕ) → octet_read (34 ∷ rest) ≡ None
-no_octet rest = refl
-
 pub octets_complete : (most : ℕ) (bytes rest : List ℕ) → length bytes ≤ most → list_all (λ b. nat_lt b 256) bytes ≡ true → octets_read most (shown_bytes bytes ++ (34 ∷ rest)) ≡ Some (bytes, 34 ∷ rest)
 octets_complete zero [] rest few all = refl
 octets_complete (suc most) [] rest few all = refl

@@ -105,11 +105,6 @@ pub octets_end : (most i : ℕ) (done text : List ℕ) (whole : Read (List ℕ))
 octets_end most i done text whole few read all =
     all ∙ ap (octets_before done) (left_is most i text few ∙ ap (λ r. octets_if text r (octets_left most (i + 1))) read) ∙ ap (λ bs. Some (bs, text)) (append-nil done)
 
-pub octets_all : (most i : ℕ) (done text : List ℕ) (whole : Read (List ℕ)) → most ≤ i → whole ≡ octets_before done (octets_left most i text) → whole ≡ Some (done, text)
-octets_all most i done text whole all is =
-    let left : most - i ≡ 0 = omega arith in
-    is ∙ ap (λ n. octets_before done (octets_read n text)) left ∙ ap (λ bs. Some (bs, text)) (append-nil done)
-
 pub found_behind : {X : Type 0} (text : List ℕ) (at len : ℕ) (x : X) (answer : Read X) → at ≤ length text → len ≤ length (drop at text) → answer ≡ Some (x, drop len (drop at text)) → (at + len ≤ length text) × (answer ≡ Some (x, drop (at + len) text))
 found_behind text at len x answer within short is =
     let left = length-drop at text in

@@ -1,6 +1,6 @@
 -- Reading one value behind another.
 use Rattle.std.proofs.Common.{◌≡◌, ◌∙◌, ℕ, suc, ◌+◌, ◌-◌, ◌<◌, ◌≤◌, true, false, cond, nat_eq, is_some, Option, Some, None, List, [], ◌∷◌, ◌++◌, length, get_or, drop, map, Result, Err, refl, sym, ap, subst, arith, append_assoc, append-nil, codes}
-use Rattle.std.proofs.lemmas.List.{drop_more, drop_all}
+use Rattle.std.proofs.lemmas.List.{drop_more}
 use Rattle.circus_value.specs.declared.shape.Field.{Field}
 use Rattle.circus_value.specs.ValueTree.{ValueTree}
 use Rattle.circus_value.specs.ValueTree as V
@@ -20,10 +20,6 @@ before done r = seen_as (λ ts. done ++ ts) r
 before_more : (done : List ValueTree) (t : ValueTree) (r : Read (List ValueTree)) → before done (one_more t r) ≡ before (done ++ t ∷ []) r
 before_more done t (Some r) = ap (λ xs. Some (xs, r.1)) (sym (append_assoc done (t ∷ []) r.0))
 before_more done t None = refl
-
-pub before_none : (r : Read (List ValueTree)) → before [] r ≡ r
-before_none (Some r) = refl
-before_none None = refl
 
 mark_more : (done : List ValueTree) (t : ValueTree) → mark_behind (done ++ t ∷ []) ≡ comma
 mark_more [] t = refl
@@ -136,10 +132,6 @@ fields_more gs i g done t text rest whole few is next all =
 pub fields_fault : {W : Type 0} (tree : W → ValueTree) (octets : List ℕ) (f : Unread) (gs : List Field) (i : ℕ) (g : Field) (done : List ValueTree) (text : List ℕ) (whole : Read (List ValueTree)) → i < length gs → g ≡ get_or gs i g → Gives tree octets (Err f) (next_read done (reading (tree_of g.shape)) text) → whole ≡ before done (fields_left gs i (mark_behind done) text) → Gives (λ (ts : List ValueTree). ts) octets (Err f) whole
 fields_fault tree octets f gs i g done text whole few is fault all =
     no_more tree octets f (mark_behind done) (reading (tree_of g.shape)) (fields_left gs (i + 1)) done text whole fault (all ∙ ap (before done) (fields_are gs i (mark_behind done) text g few is))
-
-pub fields_all : (gs : List Field) (i : ℕ) (done : List ValueTree) (mark text : List ℕ) (whole : Read (List ValueTree)) → length gs ≤ i → whole ≡ before done (fields_left gs i mark text) → whole ≡ Some (done, text)
-fields_all gs i done mark text whole all is =
-    is ∙ ap (λ xs. before done (fields_reading (field_trees (map field_of xs)) mark text)) (drop_all i gs all) ∙ ap (λ ts. Some (ts, text)) (append-nil done)
 
 -- ---- arms
 

@@ -10,11 +10,9 @@ use Rattle.circus_collate.specs.declared.deployment.Deployment.{Deployment}
 use Rattle.circus_model.specs.NextTurn.{NextTurn}
 use Rattle.circus_model.specs.declared.signature.Signature.{Signature}
 use Rattle.circus_member_rules.specs.declared.occurrence.Effect.{Effect}
-use Rattle.circus_node.specs.Node.{IsNodeOf}
 use Rattle.circus_node.specs.NodeState.{NodeState}
 use Rattle.circus_node.specs.Step as step
 use Rattle.circus_node.specs.Trace.{booted, stepped, StandsFor, effects_in}
-use Rattle.circus_node.specs.Step.{CanCome}
 use Rattle.circus_node.specs.declared.event.Event.{Event}
 use Rattle.circus_node.specs.declared.event.Event.TheVariants as comes
 use Rattle.circus_node.specs.declared.event.Outputs.{Outputs}
@@ -47,13 +45,6 @@ told_then is_told still said before is same decides = (λ on. (before.0 is, deci
 pub told_else : {P Q : Type 0} (is_told still : Bool) → Decides is_told P → is_told ≡ false → still ≡ false → Decides still (P × Q)
 told_else is_told still before is same =
     (λ on. absurd (let clash : false ≡ true = sym same ∙ on in cc), λ both. absurd (let clash : false ≡ true = sym is ∙ before.1 both.0 in cc))
-
--- what is of another node may come
-pub can_come : {M : Type 0} (d : Deployment) (node : ℕ) (n : NodeState M) (event : Event) → IsNodeOf d node n → ComesSo d node event → CanCome n event
-can_come d node n (comes.Datagram from bytes) of so = (λ same. so.other.0 (same ∙ of.own), let pairs = of.pairs in let within = so.other.1 in omega (arith, pairs, within))
-can_come d node n comes.Tick of so = tt
-can_come d node n (comes.Down down) of so = (λ same. so.other.0 (same ∙ of.own), let pairs = of.pairs in let within = so.other.1 in omega (arith, pairs, within))
-can_come d node n comes.Join of so = tt
 
 module _ {M : Type 0} (declared : M → Signature) (turn : M → List ValueTree → ℕ → List ValueTree → List Outcome → NextTurn) (first : M → List ValueTree) (d : Deployment) (node : ℕ) (hosted : Option M) where
   pub lived_at_boot : (boot : GivenEvent) (made : List Effect) (outputs : Outputs) (core : NodeState M) (said : Bool) → boot.event ≡ None → Decides said (IsSaid boot outputs)

@@ -74,7 +74,10 @@ fn ends_count_as_lines(rt: HostRuntime) -> Result<(), Fail> {
         change_lines(alloc, CLIENT, 7, 1, "now waiting ask 0 state [0]")?,
         7
     );
-    assert_eq!(rt; change_lines(alloc, CLIENT, 8, 0, "now idle state [0]\n")?, 8);
+    assert_eq!(rt;
+        change_lines(alloc, CLIENT, 8, 0, "now idle state [0]\n")?,
+        8
+    );
     assert_eq!(rt; change_lines(alloc, CLIENT, 8, 0, "x")?, 8);
     assert_eq!(rt; change_lines(alloc, CLIENT, 3, 1, "")?, 0);
     Ok(())
@@ -177,7 +180,10 @@ fn members_are_read(rt: HostRuntime) -> Result<(), Fail> {
         change_lines(alloc, CLIENT, 7, 1, "now waiting ask 1 state [0]\n")?,
         7
     );
-    assert_eq!(rt; change_lines(alloc, CLIENT, 7, 1, "now idle state [0]\n")?, 7);
+    assert_eq!(rt;
+        change_lines(alloc, CLIENT, 7, 1, "now idle state [0]\n")?,
+        7
+    );
     assert_eq!(rt;
         change_lines(alloc, CLIENT, 7, 1, "now waiting ask 0 state [65536]\n")?,
         7
@@ -299,7 +305,10 @@ fn views_are_read(rt: HostRuntime) -> Result<(), Fail> {
     );
     assert_eq!(rt; change_lines(alloc, RING, 6, 1, "view Main 1 s1=0\n")?, 6);
     assert_eq!(rt; change_lines(alloc, RING, 6, 1, "view Counter 1\n")?, 0);
-    assert_eq!(rt; change_lines(alloc, RING, 6, 1, "view Counter 1 zz=0\n")?, 6);
+    assert_eq!(rt;
+        change_lines(alloc, RING, 6, 1, "view Counter 1 zz=0\n")?,
+        6
+    );
     assert_eq!(rt;
         change_lines(alloc, RING, 6, 1, "view Counter 1 s1=4294967296\n")?,
         6

@@ -105,10 +105,6 @@ nothing_each : {X Y : Type 0} (xs : List X) → let none : X → List Y = λ x. 
 nothing_each [] = refl
 nothing_each (x ∷ xs) = nothing_each xs
 
-and_false : (b : Bool) → (b && false) ≡ false
-and_false true = refl
-and_false false = refl
-
 module _ {M : Type 0} (declared : M → Signature) (turn : M → List ValueTree → ℕ → List ValueTree → List Outcome → NextTurn) (first : M → List ValueTree) (lawful : (hosted : M) → IsModule (behaviour declared turn first hosted)) (place : Place) (views : List View) (beginning : Beginning) (hosted : M) where
   abbrev start : Joiner
   start = phase_at_boot beginning

@@ -114,15 +114,3 @@ other_asks p step o distinct = asks_called (λ (c : Caller). is_by c o ≡ false
 
 pub other_requests : (p : Past) (step : ℕ) (o : Occurrence) → AreDistinct (followed p step o) → All (λ (e : ℕ × Caller). is_by e.1 o ≡ false) (requests p)
 other_requests p step o distinct = requests_called (λ (c : Caller). is_by c o ≡ false) p (others p step o distinct)
-
--- those before are distinct
-pub distinct_before : (p : Past) (step : ℕ) (o : Occurrence) → AreDistinct (followed p step o) → AreDistinct p
-distinct_before p step (comes.Asked header body sender) distinct = distinct.0
-distinct_before p step (comes.Fetched incarnation sender) distinct = distinct.0
-distinct_before p step (comes.Replied name from reply) distinct = distinct
-distinct_before p step (comes.IsStale name server from incarnation) distinct = distinct
-distinct_before p step (comes.IsBefore name from) distinct = distinct
-distinct_before p step (comes.Told request table) distinct = distinct
-distinct_before p step (comes.Restored state count) distinct = distinct
-distinct_before p step (comes.Declared node) distinct = distinct
-distinct_before p step comes.Joins distinct = distinct

@@ -1,5 +1,5 @@
 -- Whom a call is owed is called, and nobody else.
-use Rattle.std.proofs.Common.{◌≡◌, ℕ, ◌<◌, ◌≤◌, ◌⊎◌, Bool, true, false, not, cond, ◌&&◌, ◌||◌, ◌==◌, if◌then◌else◌, zero, suc, List, [], ◌∷◌, ◌++◌, map, filter, Option, None, Some, refl, sym, ap, subst, ◌∙◌}
+use Rattle.std.proofs.Common.{◌≡◌, ℕ, ◌<◌, ◌≤◌, Bool, true, false, not, cond, ◌&&◌, ◌||◌, ◌==◌, if◌then◌else◌, zero, suc, List, [], ◌∷◌, ◌++◌, map, filter, Option, None, Some, refl, sym, ap, subst, ◌∙◌}
 use Rattle.std.specs.Prelude.{nat_lt, slice_get, find, option_map}
 use Rattle.std.specs.List.{list_any, list_all}
 use Rattle.std.specs.Option.{option_map_or}
@@ -24,9 +24,6 @@ use Rattle.circus_fanout.specs.Asking as asking
 use Rattle.circus_headline_theory.specs.Owed.Fanout.{Act, tells, falls, replies, is_before, is_stale, Fate, uncalled, waits, done, stale, IsCalled, is_done, receivers, receivers_next, known_view, down_nodes, replies_by, after, nodes_called, fate, AreAnswers, IsServed, MayBeCalled, IsOwedBy, CallsWhoIsOwed}
 
 -- ---- what became of a sending, in the list of those that were asked
-
-same_bool : (a b c d : ℕ) → a ≡ c → b ≡ d → (a == b) ≡ (c == d)
-same_bool a b c d is also = λ i. is i == also i
 
 -- it is the same number, or isn't
 other_eq : (a b c : ℕ) → (a == b) ≡ false → a ≡ c → (b == c) ≡ false

@@ -52,10 +52,6 @@ module _ {A : Type 0} where
       let before = none_first gives last p rises.0 (omega (arith, rises.1)) none in
       none_yet gives (followed p step o) before (none (followed p step o) below)
 
-  pub same_earlier : (gives other : Past → Option A) (p : Past) → Rises p → ((q : Past) → now q < now p → gives q ≡ other q) → earlier gives p ≡ earlier other p
-  same_earlier gives other booted rises same = refl
-  same_earlier gives other (followed p step o) rises same = same_first gives other (now p) p rises.0 (omega arith) (λ q before. same q (omega (arith, before, rises.1)))
-
   pub none_earlier : (gives : Past → Option A) (p : Past) → Rises p → ((q : Past) → now q < now p → gives q ≡ None) → earlier gives p ≡ None
   none_earlier gives booted rises none = refl
   none_earlier gives (followed p step o) rises none = none_first gives (now p) p rises.0 (omega arith) (λ q before. none q (omega (arith, before, rises.1)))

@@ -111,6 +111,3 @@ mutual
 
 abbrev pub coded_value : Coded ValueTree
 coded_value = code_by Gv itself value_to value_from value_back
-
-abbrev pub coded_values : Coded ValueTrees
-coded_values = code_by Gv itself values_to values_from values_back

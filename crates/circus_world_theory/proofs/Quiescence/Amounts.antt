@@ -31,17 +31,6 @@ datas sent = weigh (λ bytes. one (is_data bytes)) sent
 pub datas-append : (xs ys : List (List ℕ)) → datas (xs ++ ys) ≡ datas xs + datas ys
 datas-append = weigh-append (λ bytes. one (is_data bytes))
 
-most_one : (b : Bool) → one b ≤ 1
-most_one true = omega arith
-most_one false = omega arith
-
-pub datas_few : (xs : List (List ℕ)) → datas xs ≤ length xs
-datas_few [] = omega arith
-datas_few (x ∷ xs) =
-    let rest = datas_few xs in
-    let here = most_one (is_data x) in
-    omega (arith, rest, here)
-
 second : (b : Bool) (k y c : ℕ) (xs ys ps : List ℕ) → slice_index ((if b then k ∷ c ∷ xs else y ∷ c ∷ ys) ++ ps) 1 ≡ c
 second true k y c xs ys ps = refl
 second false k y c xs ys ps = refl

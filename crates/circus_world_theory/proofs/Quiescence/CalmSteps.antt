@@ -18,7 +18,7 @@ use Rattle.circus_collate.specs.Deployment.{IsDeployment}
 use Rattle.circus_collate.specs.declared.deployment.Deployment.{Deployment}
 use Rattle.circus_collate.specs.declared.deployment.Troupe.{Troupe}
 use Rattle.circus_collate.specs.declared.view.View.{View}
-use Rattle.circus_ring.specs.RingTable.{Kept, boot_views}
+use Rattle.circus_ring.specs.RingTable.{boot_views}
 use Rattle.circus_model.specs.NextTurn.{NextTurn}
 use Rattle.circus_model.specs.Behaviour.{Behaviour, IsModule}
 use Rattle.circus_model.specs.Agree.{IsAt, AreModules, Agree}
@@ -212,9 +212,6 @@ module _ {M : Type 0} (declared : M → Signature) (turn : M → List ValueTree 
           by_accepted at (heard.Returned number purpose message) h_is (occurrence_of_heard d (declared m.performing.hosted) m from (heard.Returned number purpose message)) refl truth returns
 
   -- ---- a delivery
-
-  no_ring : (kept : Kept) (m : MemberState M) → ◌≡◌ {A = Acting M} (ringmaster kept) (member m) → ⊥
-  no_ring kept m is = cc
 
   same_member : (a b : MemberState M) → ◌≡◌ {A = Acting M} (member a) (member b) → a ≡ b
   same_member a b is = cc

@@ -66,9 +66,6 @@ module _ {V : Type 0} (eq : V → V → Bool) (laws : IsEquivalence eq) (nodes :
         go [] some each [] is = absurd (omega (arith, some))
         go (n ∷ ns) some each [] is = absurd (none_said n said is (each n (among_first n ns)))
 
-    value_first : V
-    value_first = first_said.0.value
-
     votes_all : votes eq said nodes first_said.0.value ≡ length nodes
     unfolding votes first_from
     votes_all = count_all _ nodes (λ node is. one node (all.each node is))

@@ -177,10 +177,6 @@ module _ (kept : MemberRecord) (run gone : RunRecord) (on : GoneOn run gone) whe
             | inr there ↦ (let is = there.1 in absurd (omega (arith, is, below)))
           ]
 
-  -- an ask of the run itself
-  own_recorded : (number callee : ℕ) (a : AskRecord) → slice_get run.asks number ≡ Some a → slice_get gone.asks number ≡ Some a
-  own_recorded number callee a at = ap (λ l. slice_get l number) on.asks_are ∙ grown run.asks on.more number a at
-
 -- ---- a run is entered
 
 module _ (kept : MemberRecord) (step : ℕ) (turn : List Outcome → NextTurn) (start : RunStart) where

@@ -68,11 +68,6 @@ QuietCall for.Fetch message = ⊥
 abbrev pub QuietReturn : Caller → List ℕ → Type 0
 QuietReturn caller message = (reply : Reply) × (message ≡ reply_message reply)
 
-pub is_quiet_call : (purpose : Purpose) (message : List ℕ) → QuietCall purpose message → IsQuietCall message
-is_quiet_call (for.Ask name server) message is = is
-is_quiet_call (for.Ring request) message is = absurd is
-is_quiet_call for.Fetch message is = absurd is
-
 pub made_quietly : (views : List View) (own : ℕ) (P : Caller → CallHeader → List ℕ → Type 0) (kept : MemberRecord) (e : Effect) → EffectSo views own P kept e → IsMade QuietCall QuietReturn e
 made_quietly views own P kept (made.Call to message (for.Ask name server)) so = so.0
 made_quietly views own P kept (made.Call to message (for.Ring request)) so = absurd so

@@ -191,9 +191,6 @@ module _ (bv : List View) (own : ℕ) (phase : Joiner) (P : Caller → CallHeade
 
     module _ (sound : IsSoundNow declared turn first lawful m) (can : CanHappen (declared m.performing.hosted) m o) (quiet_o : IsQuietOccurrence o) (q : IsQuiet m)
         (old : (index number callee : ℕ) → Recorded m.performing.kept index number callee → (view : View) (node : ℕ) → slice_get bv callee ≡ Some view → is_entry view node ≡ true → Old index number callee node) where
-      abbrev Good : Doing M → Type 0
-      Good d = Body z ones P Old OldSaid d × AreLow d.member.known.wants
-
       -- with these calls and these asks
       start_body : (d : Doing M) → d.member.known.views ≡ bv → d.member.known.down ≡ [] → d.member.requests ≡ [] → d.member.gathered.required ≡ 0 → d.member.gathered.from ≡ 0 → d.member.gathered.module ≡ own
           → d.member.performing ≡ m.performing → d.member.gathered.replies ≡ m.gathered.replies → All (λ (c : HeldCall). P c.sender c.header c.body) d.member.gathered.held

@@ -1,6 +1,6 @@
 use Rattle.std.proofs.Common.{◌≡◌, ◌∙◌, Some, map, slice_get, sym, ap}
 use Rattle.circus_check.specs.declared.checked.ResolvedModule.{ResolvedModule}
-use Rattle.circus_check.specs.Seen.Meant.{module_as}
+use Rattle.circus_check.specs.Resolved.{module_as}
 use Rattle.circus_modules.specs.Signatures.{signature_of}
 use Rattle.circus_audit.specs.declared.setting.Hosted.{Hosted}
 use Rattle.circus_audit.proofs.Hosting.{signature_in, hosted_some}

@@ -9,7 +9,7 @@ use Rattle.circus_resolve.specs.Faults.{Faults}
 use Rattle.circus_lang.specs.ModuleTree.{module_of}
 use Rattle.circus_check.specs.Faults.{module_faults}
 use Rattle.circus_check.specs.Meaning.{module_meant}
-use Rattle.circus_check.specs.Seen.Meant.{module_as}
+use Rattle.circus_check.specs.Resolved.{module_as}
 use Rattle.circus_check.specs.Seen.Programs.{modules_in, interfaces_in}
 use Rattle.circus_check.proofs.ModulesFound.{where_none}
 use Rattle.circus_check.proofs.Progressing.{one_more}

@@ -17,7 +17,7 @@ use Rattle.circus_lang.specs.ModuleTree.{module_of, procedure_of, variable_of}
 use Rattle.circus_check.specs.Faults.{forms, has_procedure, also_variables, variables_parts, procedures_faults}
 use Rattle.circus_check.specs.Meaning.{body_meant}
 use Rattle.circus_check.specs.Scope.{implemented_by}
-use Rattle.circus_check.specs.Seen.Meant.{body_as}
+use Rattle.circus_check.specs.Resolved.{body_as}
 use Rattle.circus_check.specs.Seen.Programs.{modules_in, interfaces_in, list_now}
 use Rattle.circus_check.proofs.BodiesPlaced.{AreApart, IsThere, bodies_more, bodies_all, none_placed, in_place}
 use Rattle.circus_check.proofs.OwnTables.{forms_are}

@@ -9,7 +9,7 @@ use Rattle.circus_resolve.specs.Faults.{Faults}
 use Rattle.circus_lang.specs.ModuleTree.{module_of, procedure_of, variable_of}
 use Rattle.circus_check.specs.Faults.{has_procedure, also_variables, procedures_faults}
 use Rattle.circus_check.specs.Meaning.{body_meant}
-use Rattle.circus_check.specs.Seen.Meant.{body_as}
+use Rattle.circus_check.specs.Resolved.{body_as}
 use Rattle.circus_check.specs.Seen.Surroundings.{AreFew}
 use Rattle.circus_check.specs.Seen.Programs.{modules_in, interfaces_in, list_now}
 use Rattle.circus_check.proofs.BodiesPlaced.{placed}

@@ -1,7 +1,7 @@
 use Rattle.std.proofs.Common.{◌≡◌, [], length, map, inr, sym, ◌∙◌, ap, subst, arith, Some}
 use Rattle.circus_lang.specs.ModuleTree.{ModuleTree, module_of}
 use Rattle.circus_check.specs.Meaning.{ModuleMeant}
-use Rattle.circus_check.specs.Seen.Meant.{module_as}
+use Rattle.circus_check.specs.Resolved.{module_as}
 use Rattle.circus_check.specs.WellFormed.{AreWellFormed}
 use Rattle.circus_deployment.specs.Faults.{deployment_faults}
 use Rattle.circus_deployment.specs.Meaning.{deployment_meant}

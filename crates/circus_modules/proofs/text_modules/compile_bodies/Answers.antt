@@ -1,7 +1,7 @@
 use Rattle.std.proofs.Common.{sym, subst, ap, ◌∙◌, ◌<◌}
 use Rattle.std.specs.Vec.Iter.{into_iter_items}
 use Rattle.circus_value.specs.ExternalSize.{size_of_values}
-use Rattle.circus_check.specs.Seen.Meant.{body_as}
+use Rattle.circus_check.specs.Resolved.{body_as}
 use Rattle.circus_modules.specs.Zeros.{zeros}
 use Rattle.circus_modules.specs.Seen.Made.{IsSmall}
 use Rattle.circus_modules.proofs.Making.{first_and_others, made_with}

@@ -1,7 +1,7 @@
 use Rattle.std.proofs.Common.{map}
 use Rattle.std.specs.List.{AllByRecursion}
 use Rattle.std.specs.Vec.Iter.{into_iter_items}
-use Rattle.circus_check.specs.Seen.Meant.{body_as}
+use Rattle.circus_check.specs.Resolved.{body_as}
 use Rattle.circus_modules.specs.Seen.Made.{AreMade, IsSmall}
 use Rattle.circus_modules.proofs.text_modules.compile_bodies.Given as goal
 

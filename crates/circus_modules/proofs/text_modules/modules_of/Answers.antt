@@ -2,7 +2,7 @@ use Rattle.std.proofs.Common.{map, sym, subst, ap, ◌∙◌}
 use Rattle.std.specs.List.{AllByRecursion}
 use Rattle.circus_model.specs.Agree.{Agree}
 use Rattle.circus_check.specs.declared.checked.ResolvedModule.{ResolvedModule}
-use Rattle.circus_check.specs.Seen.Meant.{module_as}
+use Rattle.circus_check.specs.Resolved.{module_as}
 use Rattle.circus_modules.specs.Signatures.{interface_numbers}
 use Rattle.circus_modules.specs.Behaviours.{behaviour_of}
 use Rattle.circus_modules.specs.Seen.Made.{CanBeMade}

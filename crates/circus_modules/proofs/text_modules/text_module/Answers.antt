@@ -1,7 +1,7 @@
 use Rattle.std.proofs.Common.{ap, ◌∙◌}
 use Rattle.circus_machine.specs.Modules.{turn_with}
 use Rattle.circus_machine.specs.declared.text.TextModule.{TextModule}
-use Rattle.circus_check.specs.Seen.Meant.{module_as}
+use Rattle.circus_check.specs.Resolved.{module_as}
 use Rattle.circus_modules.specs.Zeros.{zeros}
 use Rattle.circus_modules.specs.Behaviours.{behaviour_of}
 use Rattle.circus_modules.proofs.Behaving.{meant_so, of_parts}

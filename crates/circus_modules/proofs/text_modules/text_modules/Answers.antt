@@ -1,5 +1,5 @@
 use Rattle.std.specs.Vec.Iter.{into_iter_items}
-use Rattle.circus_check.specs.Seen.Meant.{module_as}
+use Rattle.circus_check.specs.Resolved.{module_as}
 use Rattle.circus_modules.specs.Behaviours.{behaviour_of}
 use Rattle.circus_modules.specs.Seen.Made.{CanBeMade}
 use Rattle.circus_modules.proofs.Making.{first_and_others, image_more}

@@ -1,7 +1,7 @@
 use Rattle.std.proofs.Common.{◌≡◌, map}
 use Rattle.std.specs.List.{AllByRecursion}
 use Rattle.std.specs.Vec.Iter.{into_iter_items}
-use Rattle.circus_check.specs.Seen.Meant.{module_as}
+use Rattle.circus_check.specs.Resolved.{module_as}
 use Rattle.circus_modules.specs.Behaviours.{behaviour_of}
 use Rattle.circus_modules.specs.Seen.Made.{CanBeMade}
 use Rattle.circus_modules.proofs.Modules.{seen_as}

@@ -1,7 +1,7 @@
 use Rattle.std.proofs.Common.{map, ◌∙◌, ap}
 use Rattle.circus_machine.specs.Modules.{turn_with}
 use Rattle.circus_machine.specs.declared.text.TextModule.{TextModule}
-use Rattle.circus_check.specs.Seen.Meant.{module_as}
+use Rattle.circus_check.specs.Resolved.{module_as}
 use Rattle.circus_modules.specs.Behaviours.{program_of}
 use Rattle.circus_plan_modules.proofs.Fitting.{meant_of_troupes}
 use Rattle.circus_plan_modules.proofs.loaded.load.Goals as goal

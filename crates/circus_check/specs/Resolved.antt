@@ -1,4 +1,4 @@
--- What resolved modules are to clauses.
+-- Resolved modules, as they are in memory, as modules that were meant.
 use Rattle.std.specs.Prelude.{map}
 use Rattle.circus_check.specs.declared.checked.CheckedBody.{CheckedBody}
 use Rattle.circus_check.specs.declared.checked.ResolvedModule.{ResolvedModule}
