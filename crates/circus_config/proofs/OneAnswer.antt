@@ -6,15 +6,14 @@ use Rattle.circus_text.specs.Division.{AreTokensOf, IsAnswer}
 use Rattle.circus_text.proofs.Divisions.{answer_one}
 use Rattle.circus_text.specs.Lines.{line_of}
 use Rattle.circus_syntax.specs.InterfaceTree.{InterfaceTree}
-use Rattle.circus_syntax.specs.Reader.{Reader, open_at}
 use Rattle.circus_expression.specs.Ending.{Are}
 use Rattle.circus_fault.specs.declared.fault.Fault.{Fault}
 use Rattle.circus_fault.specs.Least.{least_from}
 use Rattle.circus_idl.specs.declared.interface.Interface.{Interface}
 use Rattle.circus_idl.proofs.PlainMeaning.{one_meant}
-use Rattle.circus_file.specs.WrittenProgram.{WrittenProgram, spelling_program, IsProgram}
+use Rattle.circus_file.specs.WrittenProgram.{spelling_program, IsProgram}
 use Rattle.circus_file.specs.ProgramTree.{ProgramTree, program_stands_for}
-use Rattle.circus_file.proofs.Whole.{program_read, program_one}
+use Rattle.circus_file.proofs.Whole.{program_one}
 use Rattle.circus_check.specs.Meaning.{modules_meant}
 use Rattle.circus_deployment.specs.Meaning.{deployment_meant}
 use Rattle.circus_config.specs.declared.plan.Plan.{Plan}
@@ -26,6 +25,7 @@ use Rattle.circus_config.specs.Told.{module_names}
 use Rattle.circus_config.specs.Reading.{read_faults}
 use Rattle.circus_config.specs.Checking.{checked_faults}
 use Rattle.circus_config.specs.Program.{EachMeans, placed_tokens, IsFile, IsProgramOf, SaysSame, IsAnswerTo, IsMisread, IsUnchecked, lexical_answer, IsRefused, format_number}
+use Rattle.circus_config.proofs.OneReading.{same_stop, one_interfaces}
 
 -- ---- one tree
 
@@ -79,11 +79,11 @@ answer_to_one text faults others one other same (f, first, is) (g, second, so) =
 
 misread_one : (text : List ℕ) (found : List Token) (one other : ProgramFault) → IsMisread text found one → IsMisread text found other → one ≡ other
 misread_one text found one other first second =
-    let both : ◌≡◌ {A = WrittenProgram × Reader} (first.written, record { rest = first.left; end = length text; stop = first.stop }) (second.written, record { rest = second.left; end = length text; stop = second.stop }) = sym first.is_read ∙ second.is_read in
-    let written = ap (λ (x : WrittenProgram × Reader). x.0) both in
-    let stop = ap (λ (x : WrittenProgram × Reader). x.1.stop) both in
+    let ts = placed_tokens text found in
+    let stop = same_stop ts (length text) first.stop second.stop first.written second.written first.read_of second.read_of in
+    let interfaces = one_interfaces ts (length text) first.stop second.stop first.written second.written first.read_of second.read_of in
     answer_to_one text (read_faults first.stop first.written.interfaces) (read_faults second.stop second.written.interfaces) one other
-    (λ i. read_faults (stop i) (written i).interfaces) first.given second.given
+    (λ i. read_faults (stop i) (interfaces i)) first.given second.given
 
 unchecked_one : (text : List ℕ) (one other : ProgramFault) → IsUnchecked text one → IsUnchecked text other → one ≡ other
 unchecked_one text one other first second =
@@ -103,12 +103,11 @@ nothing_given text faults answer none (f, least, is) =
 well_read : (text : List ℕ) (found : List Token) (tree : ProgramTree) (interfaces : List Interface) (answer : ProgramFault) → AreTokensOf text found → IsFile text tree interfaces → IsMisread text found answer → ⊥
 well_read text found tree interfaces answer tokens file misread =
     let same = same_tokens text file.found found file.tokens tokens in
-    let spelled = subst (λ (ts : List Token). Are spelling_program IsProgram (placed_tokens text ts) file.written) same file.spelled in
-    let whole = program_read (placed_tokens text found) file.written (length text) spelled file.within in
-    let both : ◌≡◌ {A = WrittenProgram × Reader} (file.written, open_at [] (length text)) (misread.written, record { rest = misread.left; end = length text; stop = misread.stop }) = sym whole ∙ misread.is_read in
-    let written = ap (λ (x : WrittenProgram × Reader). x.0) both in
-    let stop = ap (λ (x : WrittenProgram × Reader). x.1.stop) both in
-    let interfaces_read : tree.interfaces ≡ misread.written.interfaces = ap (λ (t : ProgramTree). t.interfaces) file.stands ∙ ap (λ (w : WrittenProgram). w.interfaces) written in
+    let ts = placed_tokens text found in
+    let spelled = subst (λ (us : List Token). Are spelling_program IsProgram (placed_tokens text us) file.written) same file.spelled in
+    let stop = same_stop ts (length text) None misread.stop file.written misread.written (spelled, file.within) misread.read_of in
+    let read = one_interfaces ts (length text) None misread.stop file.written misread.written (spelled, file.within) misread.read_of in
+    let interfaces_read : tree.interfaces ≡ misread.written.interfaces = ap (λ (t : ProgramTree). t.interfaces) file.stands ∙ read in
     nothing_given text (read_faults misread.stop misread.written.interfaces) answer
     ((λ i. read_faults (sym stop i) (sym interfaces_read i)) ∙ file.faultless) misread.given
 

@@ -1,14 +1,15 @@
 -- Tokens are read to one list of interfaces.
 use Rattle.std.proofs.Common.{◌≡◌, ℕ, ◌+◌, Bool, true, false, List, [], ◌∷◌, ◌++◌, length, refl, sym, ◌∙◌, ap, subst, arith, append-nil, append_assoc}
-use Rattle.std.specs.Prelude.{Option, Some, None, codes}
+use Rattle.std.specs.Prelude.{Option, Some, None, codes, slice_get}
 use Rattle.std.specs.List.{flat_map}
 use Rattle.std.proofs.lemmas.List.{append_cancel_right}
 use Rattle.circus_syntax.specs.declared.stopping.Stop.{Stop}
 use Rattle.circus_syntax.specs.InterfaceTree.{InterfaceTree}
 use Rattle.circus_syntax.specs.Placed.{Placed, Due, first, AreWithin, word, sign, digits, is_lexeme, is_name}
-use Rattle.circus_syntax.specs.Reader.{Reader, place_in, both, map_read}
+use Rattle.circus_syntax.specs.Reader.{Reader, both, map_read}
 use Rattle.circus_syntax.specs.Reading.{expect_token}
 use Rattle.circus_syntax.specs.Stopping.{StandAt}
+use Rattle.circus_syntax.specs.Standing.{apart, standings_of_interface}
 use Rattle.circus_syntax.specs.Filling.{AllBehind, as_further}
 use Rattle.circus_syntax.proofs.Opened.{within_more}
 use Rattle.circus_syntax.proofs.Sound.{Sound, sound_both, reader, ran_is}
@@ -32,10 +33,11 @@ use Rattle.circus_troupe.specs.DeploymentReading.{deployment}
 use Rattle.circus_file.specs.declared.program_text.Format.{Format}
 use Rattle.circus_file.specs.declared.program_text.Format.TheVariants.{One, Two}
 use Rattle.circus_file.specs.ProgramReading.{format_number, heading, interfaces, modules, program}
-use Rattle.circus_file.specs.WrittenProgram.{WrittenProgram, spelling_program, IsProgram}
+use Rattle.circus_file.specs.WrittenProgram.{WrittenProgram, spelling_heading, spelling_program, IsProgram}
 use Rattle.circus_file.proofs.Programs.{programs_lawful}
 use Rattle.circus_file.proofs.Whole.{program_one}
-use Rattle.circus_config.specs.Program.{as_format, as_interfaces, IsReadOf}
+use Rattle.circus_idl.specs.Faults.{cut_of}
+use Rattle.circus_config.specs.Program.{as_format, as_interfaces, cut_at, IsStoppedIn, IsReadOf}
 use Rattle.circus_config.proofs.OneStop.{one_stop, same_left}
 
 -- ---- the heading
@@ -88,13 +90,13 @@ fills_interfaces n =
     fills_repeated is_name (shrinks_interface n) (twice_further 0 n).stays (twice_repeated 0 is_name (shrinks_interface n) (λ i filled. unlike filled.0) (twice_further 0 n)).stays (interface_at n)
 
 -- heading and interfaces
-abbrev Front : Type 0
+abbrev pub Front : Type 0
 Front = Format × List InterfaceTree
 
 abbrev as_front : Front → List Bool
 as_front x = as_format x.0 ++ flat_map as_further x.1
 
-front : ℕ → Reader → Front × Reader
+unfoldable pub front : ℕ → Reader → Front × Reader
 front n = both heading (interfaces n)
 
 twice_front : (P n : ℕ) → Twice P (front n) as_front (One, [])
@@ -107,38 +109,38 @@ fills_front n = fills_both fills_heading (fills_interfaces n)
 
 -- ---- what stands behind
 
-abbrev Rest : Type 0
+abbrev pub Rest : Type 0
 Rest = List WrittenModule × DeploymentText
 
-abbrev spelling_rest : Rest → List Due
+abbrev pub spelling_rest : Rest → List Due
 spelling_rest x = each spelling_module x.0 ++ spelling_deployment x.1
 
-abbrev IsRest : Rest → Type 0
+abbrev pub IsRest : Rest → Type 0
 IsRest x = IsEach IsModule x.0 × IsDeploymentText x.1
 
-behind : ℕ → Reader → Rest × Reader
+unfoldable pub behind : ℕ → Reader → Rest × Reader
 behind n = both (modules n) deployment
 
-sound_behind : (n : ℕ) → Sound (behind n) spelling_rest IsRest
+pub sound_behind : (n : ℕ) → Sound (behind n) spelling_rest IsRest
 unfolding behind modules
 sound_behind n =
     sound_both (sound_repeated begins_module (shrinks_module n) (modules_lawful n (n + 2) (omega arith)).narrow) (deployments_lawful n (n + 2) (omega arith)).narrow
 
-still_behind : (n : ℕ) → Still (behind n)
+pub still_behind : (n : ℕ) → Still (behind n)
 still_behind n = record {
   still = λ s ts e. ap (λ (x : Rest × Reader). x.1) (((sound_behind n).fills s e).stays ts);
   ends = λ ts e. ap (λ (x : Rest × Reader). x.1.end) (ran_is ((sound_behind n).runs ts e));
 }
 
 -- a program by its front and what stands behind
-program_is : (n : ℕ) (r s : Reader) (w : WrittenProgram) → program n r ≡ (w, s) → both (front n) (behind n) r ≡ (((w.format, w.interfaces), (w.modules, w.deployment)), s)
+pub program_is : (n : ℕ) (r s : Reader) (w : WrittenProgram) → program n r ≡ (w, s) → both (front n) (behind n) r ≡ (((w.format, w.interfaces), (w.modules, w.deployment)), s)
 unfolding program front behind
 program_is n r s w is = λ i. ((((is i).0.format, (is i).0.interfaces), ((is i).0.modules, (is i).0.deployment)), (is i).1)
 
 -- ---- two readings
 
 one_front : (read more others : List Placed) (at : ℕ) (w v : WrittenProgram) → Are spelling_program IsProgram (read ++ more) w → Are spelling_program IsProgram (read ++ others) v → StandAt at more → StandAt at others
-    → AllBehind read (as_interfaces w) → AllBehind read (as_interfaces v) → w.interfaces ≡ v.interfaces
+    → AllBehind read (as_interfaces w) → AllBehind read (as_interfaces v) → ◌≡◌ {A = Front} (w.format, w.interfaces) (v.format, v.interfaces)
 one_front read more others at w v one other there here filled too =
     let (j, within) = enough (spelling_program w) in
     let (k, inside) = enough (spelling_program v) in
@@ -147,15 +149,14 @@ one_front read more others at w v one other there here filled too =
     let second = read_all n (read ++ others) v other (within_more k n (omega arith) (spelling_program v) inside) in
     let S = parts n (read ++ more) w first in
     let T = parts n (read ++ others) v second in
-    let (same, after) = any at (twice_front at n) read more others S.between T.between 0 (w.format, w.interfaces) (v.format, v.interfaces) (record {
+    (any at (twice_front at n) read more others S.between T.between 0 (w.format, w.interfaces) (v.format, v.interfaces) (record {
       more_there = there;
       others_there = here;
       one = S.front;
       other = T.front;
       one_filled = filled;
       other_filled = too;
-    }) in
-    ap (λ (x : Front). x.1) same
+    })).0
   where
     read_all : (n : ℕ) (all : List Placed) (u : WrittenProgram) → Are spelling_program IsProgram all u → AreWithin n (spelling_program u) → program n (reader None all 0) ≡ (u, reader None [] 0)
     read_all n all u are within = ap (λ l. program n (reader None l 0)) (sym (append-nil all)) ∙ reads programs_lawful n all [] u 0 are within refl
@@ -163,17 +164,33 @@ one_front read more others at w v one other there here filled too =
     parts : (n : ℕ) (all : List Placed) (u : WrittenProgram) → program n (reader None all 0) ≡ (u, reader None [] 0) → Split (front n) (behind n) all [] 0 ((u.format, u.interfaces), (u.modules, u.deployment))
     parts n all u is = split (fills_front n).stays (still_behind n) all [] 0 ((u.format, u.interfaces), (u.modules, u.deployment)) (program_is n (reader None all 0) (reader None [] 0) u is)
 
+-- two stops are one, and what was written before them has the same interfaces
+alike : (ts : List Placed) (end : ℕ) (s t : Stop) (w v : WrittenProgram) → IsStoppedIn ts end s w → IsStoppedIn ts end t v → (s ≡ t) × (w.interfaces ≡ v.interfaces)
+alike ts end s t w v first second =
+    let same = same_left s.cause t.cause ts first.left second.left s.place t.place w v first.cause second.cause first.filled second.filled in
+    let (places, causes) = one_stop ts end (Some s) (Some t) w v first second in
+    let one = first.filled in
+    let other = second.filled in
+    let read : one.read ≡ other.read = append_cancel_right one.read other.read second.left (ap (λ l. one.read ++ l) (sym same) ∙ sym one.whole ∙ other.whole) in
+    let fronts =
+    one_front other.read one.more other.more t.place w v (subst (λ l. Are spelling_program IsProgram (l ++ one.more) w) read one.are) other.are
+    (subst (λ p. StandAt p one.more) places one.there) other.there (subst (λ l. AllBehind l (as_interfaces w)) read first.interfaces) second.interfaces in
+    let cuts : cut_of (Some s) ≡ cut_of (Some t) =
+    first.cut ∙ (λ i. cut_at (slice_get (apart (spelling_heading (fronts i).0) ++ flat_map standings_of_interface (fronts i).1) (length (read i)))) ∙ sym second.cut in
+    (λ i. record { place = places i; cause = causes i; within = (cuts i).within; list = (cuts i).list }, ap (λ (x : Front). x.1) fronts)
+
+pub same_stop : (ts : List Placed) (end : ℕ) (one other : Option Stop) (w v : WrittenProgram) → IsReadOf ts end one w → IsReadOf ts end other v → one ≡ other
+same_stop ts end None None w v first second = refl
+same_stop ts end None (Some s) w v first second = absurd (one_stop ts end None (Some s) w v first second)
+same_stop ts end (Some s) None w v first second = absurd (one_stop ts end (Some s) None w v first second)
+same_stop ts end (Some s) (Some t) w v first second = ap (λ x. Some x) (alike ts end s t w v first second).0
+
 -- what was written has the same interfaces
 pub one_interfaces : (ts : List Placed) (end : ℕ) (one other : Option Stop) (w v : WrittenProgram) → IsReadOf ts end one w → IsReadOf ts end other v → w.interfaces ≡ v.interfaces
 one_interfaces ts end None None w v (are, within) (also, inside) = ap (λ (u : WrittenProgram). u.interfaces) (program_one ts w v are also)
 one_interfaces ts end None (Some s) w v first second = absurd (one_stop ts end None (Some s) w v first second)
 one_interfaces ts end (Some s) None w v first second = absurd (one_stop ts end (Some s) None w v first second)
-one_interfaces ts end (Some s) (Some t) w v (left, filled, so, at, stop) (rest, also, too, by, halt) =
-    let same = same_left s.cause t.cause ts left rest s.place t.place w v stop halt filled also in
-    let places : s.place ≡ t.place = at ∙ ap (λ (l : List Placed). place_in l end) same ∙ sym by in
-    let fronts : filled.read ≡ also.read = append_cancel_right filled.read also.read rest (ap (λ l. filled.read ++ l) (sym same) ∙ sym filled.whole ∙ also.whole) in
-    one_front also.read filled.more also.more t.place w v (subst (λ l. Are spelling_program IsProgram (l ++ filled.more) w) fronts filled.are) also.are
-    (subst (λ p. StandAt p filled.more) places filled.there) also.there (subst (λ l. AllBehind l (as_interfaces w)) fronts so) too
+one_interfaces ts end (Some s) (Some t) w v first second = (alike ts end s t w v first second).1
 
 -- ---- what reading fills in
 

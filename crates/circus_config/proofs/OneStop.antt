@@ -9,7 +9,7 @@ use Rattle.circus_syntax.specs.Reader.{place_in}
 use Rattle.circus_syntax.specs.Spelling.{most_levels}
 use Rattle.circus_expression.specs.Ending.{Are, IsFilledIn}
 use Rattle.circus_file.specs.WrittenProgram.{WrittenProgram, spelling_program, IsProgram}
-use Rattle.circus_config.specs.Program.{IsStopOf, IsReadOf, IsSameStop}
+use Rattle.circus_config.specs.Program.{IsStopOf, IsReadOf}
 
 -- where tokens are taken apart in two ways, the one front is the other one, or goes on from it
 data Fronts (a b c d : List Placed) : Type 0 where
@@ -99,12 +99,19 @@ same_left c d ts left rest at by w v stop other filled also = by_fronts (fronts 
     by_fronts (longer t us is so) = absurd (no_later c ts left rest filled.read by v t us stop filled.whole also is so)
     by_fronts (shorter t us is so) = absurd (no_later d ts rest left also.read at w t us other also.whole filled is so)
 
+-- two stops are in one place, for one cause
+abbrev pub IsSameStop : Option Stop → Option Stop → Type 0
+IsSameStop None None = Unit {0}
+IsSameStop None (Some t) = ⊥
+IsSameStop (Some s) None = ⊥
+IsSameStop (Some s) (Some t) = (s.place ≡ t.place) × (s.cause ≡ t.cause)
+
 pub one_stop : (ts : List Placed) (end : ℕ) (one other : Option Stop) (w v : WrittenProgram) → IsReadOf ts end one w → IsReadOf ts end other v → IsSameStop one other
 one_stop ts end None None w v first second = tt
-one_stop ts end None (Some s) w v (are, within) (left, filled, so, at, stop) = not_whole s.cause ts left w stop are within
-one_stop ts end (Some s) None w v (left, filled, so, at, stop) (are, within) = not_whole s.cause ts left v stop are within
-one_stop ts end (Some s) (Some t) w v (left, filled, so, at, stop) (rest, also, too, by, halt) =
-    let same = same_left s.cause t.cause ts left rest s.place t.place w v stop halt filled also in (
-      at ∙ ap (λ (l : List Placed). place_in l end) same ∙ sym by,
-      one_cause s.cause t.cause ts rest (subst (IsStopOf s.cause ts) same stop) halt,
+one_stop ts end None (Some s) w v (are, within) second = not_whole s.cause ts second.left w second.cause are within
+one_stop ts end (Some s) None w v first (are, within) = not_whole s.cause ts first.left v first.cause are within
+one_stop ts end (Some s) (Some t) w v first second =
+    let same = same_left s.cause t.cause ts first.left second.left s.place t.place w v first.cause second.cause first.filled second.filled in (
+      first.place ∙ ap (λ (l : List Placed). place_in l end) same ∙ sym second.place,
+      one_cause s.cause t.cause ts second.left (subst (IsStopOf s.cause ts) same first.cause) second.cause,
     )

@@ -6,19 +6,17 @@ use Rattle.circus_text.specs.declared.token.Token.{Token}
 use Rattle.circus_text.specs.Form.{longest_text}
 use Rattle.circus_text.specs.Token.{IsTokenIn}
 use Rattle.circus_text.specs.Division.{AreTokensOf}
+use Rattle.circus_text.proofs.TokensLie.{tokens_in_order}
 use Rattle.circus_text.specs.Lines.{line_of}
 use Rattle.circus_syntax.specs.declared.stopping.Stop.{Stop}
-use Rattle.circus_syntax.specs.declared.stopping.StopCause.{StopCause}
-use Rattle.circus_syntax.specs.declared.stopping.StopCause.TheVariants.{Unexpected, TooDeep}
 use Rattle.circus_syntax.specs.InterfaceTree.{InterfaceTree}
 use Rattle.circus_syntax.specs.Placed.{Placed, AreTokens, AreWithin}
-use Rattle.circus_syntax.specs.Reader.{Reader, open_at, place_in}
+use Rattle.circus_syntax.specs.Reader.{Reader, open_at}
 use Rattle.circus_syntax.specs.Spelling.{most_levels, IsEach, IsGrammatical}
 use Rattle.circus_syntax.proofs.Sound.{reader, ran_is}
 use Rattle.circus_syntax.proofs.Viewed.{text_tokens}
 use Rattle.circus_expression.specs.Ending.{Are}
 use Rattle.circus_expression.specs.Standing.{shown}
-use Rattle.circus_expression.proofs.Ends.{unexpected, too_deep, filled_in}
 use Rattle.circus_lang.specs.ModuleStanding.{module_stands_for}
 use Rattle.circus_lang.specs.WrittenModule.{WrittenModule, IsModule}
 use Rattle.circus_troupe.specs.DeploymentSpelling.{IsDeploymentText}
@@ -56,8 +54,9 @@ use Rattle.circus_config.specs.Rank.{rank_of}
 use Rattle.circus_config.specs.Told.{module_names}
 use Rattle.circus_config.specs.Checking.{checked_faults}
 use Rattle.circus_config.specs.Reading.{interfaces_faults, read_faults}
-use Rattle.circus_config.specs.Program.{EachMeans, placed_tokens, IsFile, IsStopOf, IsReadOf, IsAnswerTo, IsProgramOf, IsRefused, format_number, HaveTheirRoots, IsPlan}
-use Rattle.circus_config.proofs.OneReading.{interfaces_filled}
+use Rattle.circus_config.specs.Program.{EachMeans, placed_tokens, IsFile, IsAnswerTo, IsProgramOf, IsRefused, format_number, HaveTheirRoots, IsPlan}
+use Rattle.circus_config.proofs.Rising.{tokens_rise}
+use Rattle.circus_config.proofs.ReadOf.{read_of}
 use Rattle.circus_config.proofs.Looked.{modules_in_text, same_least, none_looked}
 use Rattle.circus_config.proofs.Rules.{clean_of, all_obey, as_many}
 
@@ -67,20 +66,6 @@ of_text ts w s e is =
     let R = (programs_lawful most_levels 66 (omega arith)).narrow.runs ts e in
     let same : s.end ≡ e = ap (λ (x : WrittenProgram × Reader). x.1.end) (sym is ∙ ran_is R) in
     is ∙ ap (λ k. (w, reader s.stop s.rest k)) same
-
-stop_of : (ts left : List Placed) (w : WrittenProgram) (s : Stop) (e : ℕ) → AreTokens ts → program most_levels (open_at ts e) ≡ (w, reader (Some s) left e) → (c : StopCause) → s.cause ≡ c → IsStopOf c ts left
-stop_of ts left w s e tokens is Unexpected flat = (unexpected programs_lawful refl most_levels ts left w s e tokens is flat).0
-stop_of ts left w s e tokens is TooDeep deep = (too_deep programs_lawful refl most_levels ts left w s e tokens is deep).0
-
-place_of : (ts left : List Placed) (w : WrittenProgram) (s : Stop) (e : ℕ) → AreTokens ts → program most_levels (open_at ts e) ≡ (w, reader (Some s) left e) → (c : StopCause) → s.cause ≡ c → s.place ≡ place_in left e
-place_of ts left w s e tokens is Unexpected flat = (unexpected programs_lawful refl most_levels ts left w s e tokens is flat).1
-place_of ts left w s e tokens is TooDeep deep = (too_deep programs_lawful refl most_levels ts left w s e tokens is deep).1
-
-read_of : (ts left : List Placed) (w : WrittenProgram) (stop : Option Stop) (e : ℕ) → AreTokens ts → program most_levels (open_at ts e) ≡ (w, reader stop left e) → IsReadOf ts e stop w
-read_of ts left w None e tokens is = let (none, are, within) = program_whole ts left w e tokens is in (are, within)
-read_of ts left w (Some s) e tokens is =
-    let filled = filled_in programs_lawful most_levels ts left w s e tokens is in
-    (left, filled, interfaces_filled most_levels ts filled.read left w s e is filled.whole, place_of ts left w s e tokens is s.cause refl, stop_of ts left w s e tokens is s.cause refl)
 
 all_read : (ws : List WrittenModule) → IsEach IsModule ws → AllByRecursion IsRead (map module_stands_for ws)
 all_read [] good = tt
@@ -136,21 +121,14 @@ module _ (text : List ℕ) (found : List Token) (tree : ProgramTree) (s : Reader
   tokens_are = text_tokens text found 0 each
 
   pub misread : (answer : ProgramFault) → length text ≤ longest_text → AreTokensOf text found → IsAnswerTo text (read_faults s.stop tree.interfaces) answer → IsRefused text answer
-  misread answer short tokens given = inr (inr (inl (
-    short,
-    (
-      found,
-      tokens,
-      record {
-        written = written;
-        stop = s.stop;
-        left = s.rest;
-        is_read = written_is;
-        read_of = read_of (placed_tokens text found) s.rest written s.stop (length text) tokens_are written_is;
-        given = subst (λ (t : ProgramTree). IsAnswerTo text (read_faults s.stop t.interfaces) answer) stands given;
-      },
-    ),
-  )))
+  misread answer short tokens given =
+      let rises = tokens_rise text found each (tokens_in_order text found tokens) in
+      let (stop, read, same) = read_of (placed_tokens text found) s.rest written s.stop (length text) tokens_are rises written_is in
+      let faults = ap (λ (t : ProgramTree). read_faults s.stop t.interfaces) stands ∙ same in
+      inr (inr (inl (
+        short,
+        (found, tokens, record { written = written; stop = stop; read_of = read; given = subst (λ fs. IsAnswerTo text fs answer) faults given }),
+      )))
 
   module _ (interfaces : List Interface) (C : IsClean s.stop tree interfaces) where
     whole : program most_levels (open_at (placed_tokens text found) (length text)) ≡ (written, reader None s.rest (length text))

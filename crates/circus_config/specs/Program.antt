@@ -1,6 +1,6 @@
 -- *Program*: which program a file is, and else the line and the cause of its refusal. Three passes are made, and the first one
 -- with a fault decides: tokens; reading, with the rules of interfaces; checking of modules and deployment.
-use Rattle.std.specs.Prelude.{◌≡◌, ◌⊎◌, ℕ, ◌<◌, ◌≤◌, Bool, true, false, List, [], ◌∷◌, ◌++◌, length, map, All, IsAscii, Err, Option, Some, None}
+use Rattle.std.specs.Prelude.{◌≡◌, ◌⊎◌, ℕ, ◌<◌, ◌≤◌, Bool, true, false, List, [], ◌∷◌, ◌++◌, length, map, All, IsAscii, Err, Option, Some, None, slice_get}
 use Rattle.std.specs.List.{AllByRecursion, flat_map}
 use Rattle.circus_text.specs.declared.token.Token.{Token}
 use Rattle.circus_text.specs.declared.lex_fault.LexFault.{LexFault}
@@ -14,20 +14,21 @@ use Rattle.circus_syntax.specs.declared.stopping.StopCause.TheVariants.{Unexpect
 use Rattle.circus_syntax.specs.InterfaceTree.{InterfaceTree}
 use Rattle.circus_syntax.specs.Placed.{Placed, AreWithin}
 use Rattle.circus_syntax.specs.Read.{placed_from}
-use Rattle.circus_syntax.specs.Reader.{open_at, place_in}
+use Rattle.circus_syntax.specs.Reader.{place_in}
 use Rattle.circus_syntax.specs.Spelling.{most_levels}
+use Rattle.circus_syntax.specs.Standing.{Standing, apart, standings_of_interface}
 use Rattle.circus_syntax.specs.Filling.{AllBehind, as_further}
 use Rattle.circus_expression.specs.Ending.{Are, IsUnexpected, IsTooDeep, IsFilledIn}
 use Rattle.circus_fault.specs.declared.fault.Fault.{Fault}
 use Rattle.circus_fault.specs.Least.{least_from}
 use Rattle.circus_idl.specs.declared.interface.Interface.{Interface}
+use Rattle.circus_idl.specs.Faults.{Cut, cut_of}
 use Rattle.circus_idl.specs.Means.{Means}
 use Rattle.circus_idl.specs.Obeys.{Obeys}
 use Rattle.circus_file.specs.declared.program_text.Format.{Format}
 use Rattle.circus_file.specs.declared.program_text.Format.TheVariants.{One, Two}
-use Rattle.circus_file.specs.WrittenProgram.{WrittenProgram, spelling_program, IsProgram}
+use Rattle.circus_file.specs.WrittenProgram.{WrittenProgram, spelling_heading, spelling_program, IsProgram}
 use Rattle.circus_file.specs.ProgramTree.{ProgramTree, program_stands_for}
-use Rattle.circus_file.specs.ProgramReading.{program}
 use Rattle.circus_check.specs.Meaning.{ModuleMeant, modules_meant}
 use Rattle.circus_check.specs.Resolved.{module_as}
 use Rattle.circus_check.specs.WellFormed.{AreWellFormed}
@@ -118,20 +119,29 @@ as_format Two = true ∷ false ∷ true ∷ []
 abbrev pub as_interfaces : WrittenProgram → List Bool
 as_interfaces w = as_format w.format ++ flat_map as_further w.interfaces
 
--- what was written is the program that the tokens are, or, where reading stopped, one that they begin up to there, and what
--- its interfaces have besides is filled in
+-- where each token of a program, up to the end of its interfaces, stands
+abbrev pub standings_in : WrittenProgram → List Standing
+standings_in w = apart (spelling_heading w.format) ++ flat_map standings_of_interface w.interfaces
+
+-- what a stop cuts that came before a token which stands so: its whole type and its list; behind the interfaces nothing
+abbrev pub cut_at : Option Standing → Cut
+cut_at None = record { within = None; list = None }
+cut_at (Some m) = record { within = m.within; list = m.list }
+
+-- reading stopped: what was written is a program that the tokens begin up to there, and what its interfaces have besides is
+-- filled in. The stop is marked with what it cuts
+pub record IsStoppedIn (ts : List Placed) (end : ℕ) (stop : Stop) (w : WrittenProgram) : Type 0 where
+  pub left : List Placed
+  pub filled : IsFilledIn spelling_program IsProgram most_levels ts left stop.place w
+  pub interfaces : AllBehind filled.read (as_interfaces w)
+  pub cut : cut_of (Some stop) ≡ cut_at (slice_get (standings_in w) (length filled.read))
+  pub place : stop.place ≡ place_in left end
+  pub cause : IsStopOf stop.cause ts left
+
+-- what was written is the program that the tokens are, or reading stopped in it
 abbrev pub IsReadOf : List Placed → ℕ → Option Stop → WrittenProgram → Type 0
 IsReadOf ts end None w = Are spelling_program IsProgram ts w × AreWithin most_levels (spelling_program w)
-IsReadOf ts end (Some s) w =
-    (left : List Placed) × (filled : IsFilledIn spelling_program IsProgram most_levels ts left s.place w) × AllBehind filled.read (as_interfaces w)
-    × (s.place ≡ place_in left end) × IsStopOf s.cause ts left
-
--- two stops are in one place, for one cause
-abbrev pub IsSameStop : Option Stop → Option Stop → Type 0
-IsSameStop None None = Unit {0}
-IsSameStop None (Some t) = ⊥
-IsSameStop (Some s) None = ⊥
-IsSameStop (Some s) (Some t) = (s.place ≡ t.place) × (s.cause ≡ t.cause)
+IsReadOf ts end (Some s) w = IsStoppedIn ts end s w
 
 -- the answer to faults: the line and the cause of the least of them
 abbrev pub IsAnswerTo : List ℕ → List (Fault ProgramCause) → ProgramFault → Type 0
@@ -142,8 +152,6 @@ IsAnswerTo text faults answer =
 pub record IsMisread (text : List ℕ) (found : List Token) (answer : ProgramFault) : Type 0 where
   pub written : WrittenProgram
   pub stop : Option Stop
-  pub left : List Placed
-  pub is_read : program most_levels (open_at (placed_tokens text found) (length text)) ≡ (written, record { rest = left; end = length text; stop = stop })
   pub read_of : IsReadOf (placed_tokens text found) (length text) stop written
   pub given : IsAnswerTo text (read_faults stop written.interfaces) answer
 

@@ -9,7 +9,7 @@ ghost use Rattle.circus_config.specs.declared.plan.Plan.{Plan};
 ghost use Rattle.circus_config.specs.declared.program_fault.ProgramCause.{ProgramCause};
 ghost use Rattle.circus_config.specs.declared.program_fault.ProgramFault.{ProgramFault};
 ghost use Rattle.circus_config.specs.Rank.{rank_of};
-ghost use Rattle.circus_config.specs.Program.{IsReadOf, IsSameStop, IsProgramOf, SaysSame, IsRefused};
+ghost use Rattle.circus_config.specs.Program.{IsReadOf, IsProgramOf, SaysSame, IsRefused};
 
 /// A file means one program, or is refused with one line and one cause, and not both.
 pub fn one_answer()
@@ -21,11 +21,11 @@ pub fn one_answer()
         → IsRefused text refusal → ⊥ }
 {}
 
-/// Tokens are a program, or reading them stops in one place and for one cause, and not both; and they are read to one list of
-/// interfaces. The grammar alone says so.
+/// Tokens are a program, or reading them stops in one place, for one cause and in one type and list, and not both; and they are
+/// read to one list of interfaces. The grammar alone says so.
 pub fn one_reading()
     ensures stop { (ts : List Placed) (end : ℕ) (one other : Option Stop) (w v : WrittenProgram)
-        → IsReadOf ts end one w → IsReadOf ts end other v → IsSameStop one other }
+        → IsReadOf ts end one w → IsReadOf ts end other v → one ≡ other }
     ensures interfaces { (ts : List Placed) (end : ℕ) (one other : Option Stop)
         (w v : WrittenProgram) → IsReadOf ts end one w → IsReadOf ts end other v
         → w.interfaces ≡ v.interfaces }
