@@ -15,6 +15,7 @@ pub fn faultless_are_well_formed()
     ensures { (variables : List ShapeTree) (context : Context) → IsWholeContext variables context
         → (ss : StatementTrees) → StatementsAreOfBytes ss
         → all_faults context ss ≡ []
-        → AreTyped variables (ContextTakes context) (ContextReports context) (shapes_of context.own.results)
-        (IsReported context.own) (statement_trees (all_do context ss)) }
+        → AreTyped variables (ContextTakes context) (ContextReports context)
+        (shapes_of context.own.results) (IsReported context.own)
+        (statement_trees (all_do context ss)) }
 {}

@@ -107,7 +107,8 @@ fn add_troupes(nodes: &mut Hosts, modules: &Names, troupes: &[TroupeText]) -> Re
 /// The nodes, in the order of the text.
 pub fn nodes(alloc: Global, modules: &Names, text: &DeploymentText) -> Result<Hosts, NoMemory>
     requires { IsInRange text.now }
-    ensures { IfOk result (λ nodes. nodes ≡ nodes_meant (as_words (known_of modules.now)) text.now) }
+    ensures { IfOk result (λ nodes.
+        nodes ≡ nodes_meant (as_words (known_of modules.now)) text.now) }
 {
     let mut nodes = Hosts::new(alloc);
     nodes.push(host(&text.ringmaster.name, text.ringmaster.port, None)?)?;
