@@ -326,6 +326,49 @@ another one, or there are not so many runs.
   not a run of s2
   [13]
 
+A false state that is given doesn't show where each run sets another one. It is told where a later run is wrong, before that one.
+
+  $ sed 's/PORT 90/PORT 95/g' "$TESTDIR/programs/keeper.circus" >keeper
+  $ set_to() {
+  >   hex=$(printf %04x "$2")
+  >   cat <<END
+  > circus node 1 s2
+  > event 0 boot
+  > event 1 join
+  > give ring 0000010100000000000100010000000200000000
+  > event 2 datagram ring 010001010000000000040000000000000002000200010001000000000002000000000000
+  > give ring 0101010100000000
+  > give s1 00000101000000000002000000000002
+  > event 3 datagram s1 0100010100000000000300000001$1
+  > give s1 0101010100000000
+  > give ring 0000010100000001000100020000000200000001
+  > event 4 datagram m1 00000101000000000000000100010001000100000001000000000000000000030001000200000001000000000007
+  > give m1 0001010100000000
+  > give m1 010001010000000000000002000000020000000000000007
+  > event 5 datagram m1 0000010100000001000000010001000200010000000100000000000000000003000100020000000200000000$hex
+  > give m1 0001010100000001
+  > give m1 01000101000000010000000200000003000000000000$hex
+  > member s2 Keeper live from 1 at 3 count 3
+  > run 1 step 4 path Main.1 procedure 1 clock 2,0 arguments [7]
+  > end 1 step 4 clock 2,0 returned [7] state [7]
+  > run 2 step 5 path Main.2 procedure 1 clock 3,0 arguments [$2]
+  > end 2 step 5 clock 3,0 returned [$2] state [$2]
+  > now idle state [$2]
+  > END
+  > }
+  $ set_to 0005 9 >r; circus audit keeper r
+  circus audit 1
+  yes
+  $ set_to 0004 9 >r; circus audit keeper r
+  circus audit 1
+  yes
+  $ set_to 0005 8 >r; circus audit keeper r
+  run 2 does not stand
+  [13]
+  $ set_to 0004 8 >r; circus audit keeper r
+  run 1 does not stand
+  [13]
+
 The Ringmaster's views are those of the requests that came to it.
 
   $ cat ring
