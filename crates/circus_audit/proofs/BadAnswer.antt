@@ -3,7 +3,7 @@ use Rattle.std.specs.List.{AllByRecursion}
 use Rattle.std.proofs.Common.{◌≡◌, ℕ, ◌<◌, List, length, map, Option, Some, None, Err, refl}
 use Rattle.circus_text.specs.Form.{IsWord}
 use Rattle.circus_check.specs.Meaning.{ModuleMeant}
-use Rattle.circus_check.specs.Seen.Meant.{module_as}
+use Rattle.circus_check.specs.Resolved.{module_as}
 use Rattle.circus_config.specs.declared.plan.Plan.{Plan}
 use Rattle.circus_config.specs.Program.{IsPlan}
 use Rattle.circus_audit.specs.declared.given.Given.{Given}

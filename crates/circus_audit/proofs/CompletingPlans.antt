@@ -27,7 +27,7 @@ use Rattle.circus_collate.specs.declared.deployment.Troupe.{Troupe}
 use Rattle.circus_record.specs.Naming.{host_name}
 use Rattle.circus_type.specs.Distinct.{AreDistinct}
 use Rattle.circus_check.specs.Meaning.{ModuleMeant}
-use Rattle.circus_check.specs.Seen.Meant.{module_as}
+use Rattle.circus_check.specs.Resolved.{module_as}
 use Rattle.circus_modules.specs.InterfaceSignatures.{error_of, error_numbered, errors_numbered, procedure_of}
 use Rattle.circus_modules.specs.Signatures.{procedures_if, procedures_offered, interface_numbers, signature_of}
 use Rattle.circus_modules.specs.Signatures as signatures

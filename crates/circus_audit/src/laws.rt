@@ -3,7 +3,7 @@ ghost use Rattle.std.specs.Prelude.{◌≡◌, ◌<◌, ℕ, List, Some, Ok, Err
 ghost use Rattle.std.specs.List.{AllByRecursion};
 ghost use Rattle.circus_text.specs.Form.{IsWord};
 ghost use Rattle.circus_check.specs.Meaning.{ModuleMeant};
-ghost use Rattle.circus_check.specs.Seen.Meant.{module_as};
+ghost use Rattle.circus_check.specs.Resolved.{module_as};
 ghost use Rattle.circus_config.specs.declared.plan.Plan.{Plan};
 ghost use Rattle.circus_config.specs.Program.{IsPlan};
 ghost use Rattle.circus_audit.specs.declared.given.Given.{Given};

@@ -1,6 +1,7 @@
 -- A file means one plan.
 use Rattle.std.proofs.Common.{◌≡◌, ℕ, List, [], ◌∷◌, map, refl, sym, ap, subst, ◌∙◌}
 use Rattle.std.specs.List.{AllByRecursion}
+use Rattle.std.proofs.Math.Logic.{∥∥₁_prop}
 use Rattle.circus_idl.specs.declared.interface.Interface.{Interface}
 use Rattle.circus_idl.specs.Obeys.{Obeys}
 use Rattle.circus_check.specs.declared.checked.CheckedBody.{CheckedBody}
