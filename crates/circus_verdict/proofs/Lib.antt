@@ -10,3 +10,4 @@ pub mod Shaping
 pub mod Coming
 pub mod Planned
 pub mod OneVerdict
+pub mod Possible

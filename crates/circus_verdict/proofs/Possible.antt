@@ -1,0 +1,13 @@
+-- What a node lives through may stand in a record of it.
+pub mod Pasts
+pub mod Activation
+pub mod Performed
+pub mod Occurring
+pub mod Hearing
+pub mod Members
+pub mod Differing
+pub mod Whole
+pub mod Saying
+pub mod Giving
+pub mod Views
+pub mod RingGiving
