@@ -28,4 +28,5 @@ pub mod Promised
 pub mod Agreed
 pub mod Planned
 pub mod ServedRuns
+pub mod Accepting
 pub mod PutLemmas

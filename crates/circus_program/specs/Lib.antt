@@ -9,6 +9,7 @@ pub mod Agreeing
 pub mod Replayed
 pub mod Promise
 pub mod ServedRuns
+pub mod Accepted
 pub mod Told
 pub mod Answered
 pub mod Seen

@@ -53,7 +53,8 @@ enum Asked<'a> {
 
 ghost use Rattle.circus_program.specs.Seen.Step.{due_of, Stands, LacksNone, IsLackNoted, IsStepBehind, IsStepOfProgram, IsStepOfTwo, IsStepOfFile};
 ghost use Rattle.circus_program.specs.Seen.Asked.{IsDueOfTask, IsDueOfCommand, asked_form};
-ghost use Rattle.circus_program.specs.Seen.Planned.{MeanPlans, HasModuleNames, IsKnownOf, ReadsPlans, OfContents, PlansOf};
+ghost use Rattle.circus_program.specs.Accepted.{HasModuleNames};
+ghost use Rattle.circus_program.specs.Seen.Planned.{MeanPlans, IsKnownOf, ReadsPlans, OfContents, PlansOf};
 
 // What comes of a plan and the bytes of a second file.
 fn of_second<'a>(

@@ -6,7 +6,7 @@ ghost use Rattle.circus_config.specs.Program.{IsPlan};
 ghost use Rattle.circus_commands.specs.Status.{is_end};
 ghost use Rattle.circus_commands.specs.Seen.Ending.{ending_of};
 ghost use Rattle.circus_program.specs.Audit.{verdict_end, bad_line_end, IsEndOfAudit};
-ghost use Rattle.circus_program.specs.Seen.Planned.{HasModuleNames};
+ghost use Rattle.circus_program.specs.Accepted.{HasModuleNames};
 
 use circus_audit::{RecordFault, read_record};
 use circus_collate::Hosts;

@@ -1,5 +1,5 @@
 // What holds of all words and all contents of the files.
-ghost use Rattle.std.specs.Prelude.{◌≡◌, ◌<◌, ◌≤◌, ◌⊎◌, ◌↔◌, ◌++◌, ℕ, Option, List};
+ghost use Rattle.std.specs.Prelude.{◌≡◌, ◌<◌, ◌≤◌, ◌⊎◌, ◌↔◌, ◌++◌, ℕ, Option, List, length};
 ghost use Rattle.circus_program.specs.Form.{IsOfNoForm, most_steps};
 ghost use Rattle.circus_simulation.specs.Schedule.{schedule_of};
 ghost use Rattle.circus_model.specs.Behaviour.{Behaviour};
@@ -11,6 +11,11 @@ ghost use Rattle.circus_program.specs.Replay.{replay_of, picture_of};
 ghost use Rattle.circus_program.specs.Agreeing.{IsAgreed, IsAgreedSoFar, ArePlans};
 ghost use Rattle.circus_config.specs.Program.{IsPlan};
 ghost use Rattle.circus_program.specs.Promise.{KeepsPromise, IsKept, IsKeptSoFar, enough_deliveries};
+ghost use Rattle.circus_audit.specs.BadLine.{IsBadLine};
+ghost use Rattle.circus_audit.specs.declared.given.Given.{Given};
+ghost use Rattle.circus_verdict.specs.declared.verdict.Verdict.TheVariants.{NotARun};
+ghost use Rattle.circus_program.specs.Accepted.{HasModuleNames, IsAccepted, IsAcceptedOf};
+ghost use Rattle.circus_program.specs.Audit.{IsBadAt, IsJudged};
 ghost use Rattle.circus_program.specs.ServedRuns.{IsServedRunOf, WasServedSoFar, WasSpentAtBoot};
 ghost use Rattle.circus_serve.specs.Outside.{Tells};
 ghost use Rattle.circus_node_command.specs.NodeEnds.{IsEndOfServing};
@@ -161,4 +166,20 @@ pub fn served_ends_are_node_runs()
     ensures so_far { (plan : Plan) (node turns : ℕ) (old new : Tells) (ending : Ending)
         → IsPlan plan → IsEndOfServing plan node turns old new ending
         → WasServedSoFar plan node turns old new ⊎ WasSpentAtBoot plan node old new }
+{}
+
+/// What a served node of a plan writes with status 0 is accepted by an audit, where what was taken is bytes from ports and the text
+/// has fewer than 4,294,967,295 bytes: it is a record with no bad line, and what it says is a run of the node. So an audit of it
+/// comes to no bad line, as there is none in it, and not to the answer that it is no run.
+pub fn audits_accept_served_nodes()
+    ensures accepted { (plan : Plan) (node turns : ℕ) (old new : Tells) (ending : Ending)
+        → IsPlan plan → HasModuleNames plan → node < length plan.deployment.nodes
+        → IsEndOfServing plan node turns old new ending → ending.status ≡ Done
+        → IsAcceptedOf plan node turns old new ending.text }
+    ensures no_bad_line { (plan : Plan) (text : List ℕ) (number : ℕ) → IsAccepted plan text
+        → IsBadAt plan text number → ⊥ }
+    ensures no_line { (plan : Plan) (text : List ℕ) (line : ℕ) → IsAccepted plan text
+        → IsBadLine plan text line → ⊥ }
+    ensures a_run { (plan : Plan) (text : List ℕ) (given : Given) → IsAccepted plan text
+        → IsJudged plan text given NotARun → ⊥ }
 {}

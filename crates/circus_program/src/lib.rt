@@ -23,7 +23,8 @@ mod words;
 pub use call::circus;
 pub use circus_commands::Status;
 pub use laws::{
-    copies_agree, ends_are_of_worlds, ends_tell_why, lines_are_replayed, one_thing_is_due,
-    pictures_are_of_worlds, promises_are_kept, reports_are_of_worlds, served_ends_are_node_runs,
+    audits_accept_served_nodes, copies_agree, ends_are_of_worlds, ends_tell_why,
+    lines_are_replayed, one_thing_is_due, pictures_are_of_worlds, promises_are_kept,
+    reports_are_of_worlds, served_ends_are_node_runs,
 };
 pub use words::{CommandForm, read_words};

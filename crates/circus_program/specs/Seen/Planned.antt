@@ -1,9 +1,5 @@
 -- What is known of a program that was read: it is a plan, and the lines of a sample of it are short.
-use Rattle.std.specs.Prelude.{ℕ, ◌≡◌, Option, Some, List, map, IfSome}
-use Rattle.std.specs.List.{AllByRecursion}
-use Rattle.circus_text.specs.Form.{IsWord}
-use Rattle.circus_check.specs.Meaning.{ModuleMeant}
-use Rattle.circus_check.specs.Resolved.{module_as}
+use Rattle.std.specs.Prelude.{ℕ, ◌≡◌, Option, Some, List, IfSome}
 use Rattle.circus_config.specs.declared.plan.Plan.{Plan}
 use Rattle.circus_config.specs.Program.{IsProgramOf, IsPlan}
 use Rattle.circus_program.specs.declared.answer.Command.{Command}
@@ -13,11 +9,6 @@ use Rattle.circus_program.specs.declared.answer.Task.TheVariants.{Sample, Lines,
 use Rattle.circus_program.specs.Last.{IsLines}
 use Rattle.circus_program.specs.Agreeing.{ArePlans}
 use Rattle.circus_program.specs.Replayed.{AreShort}
-
--- the names of the modules of a plan are those that it keeps apart, and words
-pub record HasModuleNames (plan : Plan) : Type 0 where
-  pub names : plan.names ≡ map (λ (m : ModuleMeant). m.name) (map module_as plan.checked.modules)
-  pub words : AllByRecursion IsWord plan.names
 
 -- what the bytes mean is a plan
 abbrev pub MeanPlans : List ℕ → Type 0
