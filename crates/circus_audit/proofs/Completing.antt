@@ -12,7 +12,7 @@ use Rattle.circus_value_text.proofs.Marks.{passed_front}
 use Rattle.circus_value_text.proofs.Numbers.{number_complete}
 use Rattle.circus_value_text.proofs.WordsInverse.{clock_complete}
 use Rattle.circus_audit.specs.Seen.Answers.{found, only_if}
-use Rattle.circus_audit.specs.Seen.Names.{name_length, place_of, named, other, name_at}
+use Rattle.circus_audit.specs.Seen.Names.{name_length, place_of, number_of_name, other, name_at}
 use Rattle.circus_audit.specs.Seen.Lines.{long_behind, word_behind, name_behind, behind_this, step_read, step_behind, numbered_step, clock_behind}
 
 -- the text ends, or goes on with a blank, an equals sign or a point
@@ -135,7 +135,7 @@ take_exactly : (xs ys : List ℕ) → take (length xs) (xs ++ ys) ≡ xs
 take_exactly [] ys = refl
 take_exactly (x ∷ xs) ys = ap (λ zs. x ∷ zs) (take_exactly xs ys)
 
-pub named_complete : (names : List (List ℕ)) → AreNames names → Completes (named names) (name_at names) (λ n. n < length names)
+pub named_complete : (names : List (List ℕ)) → AreNames names → Completes (number_of_name names) (name_at names) (λ n. n < length names)
 named_complete names are n rest within ends =
     let name = name_at names n in
     let len = letters_before name rest (are.letters n within) (no_letter rest ends) in
@@ -144,8 +144,8 @@ named_complete names are n rest within ends =
     ∙ ap (λ o. read_meaning o rest) (are.places n within)
 
 pub name_behind_complete : (mark : List ℕ) (names : List (List ℕ)) → AreNames names → Completes (name_behind mark names) (λ n. mark ++ name_at names n) (λ n. n < length names)
-name_behind_complete mark names are = behind_complete mark (named names) (name_at names) (λ n. n < length names) (named_complete names are)
+name_behind_complete mark names are = behind_complete mark (number_of_name names) (name_at names) (λ n. n < length names) (named_complete names are)
 
-pub other_complete : (nodes : List (List ℕ)) (own : ℕ) → AreNames nodes → Completes (λ text. other own (named nodes text)) (name_at nodes) (λ n. (n < length nodes) × (n ≢ own))
+pub other_complete : (nodes : List (List ℕ)) (own : ℕ) → AreNames nodes → Completes (λ text. other own (number_of_name nodes text)) (name_at nodes) (λ n. (n < length nodes) × (n ≢ own))
 other_complete nodes own are n rest holds ends =
     ap (other own) (named_complete nodes are n rest holds.0 ends) ∙ ap (λ b. cond {A = Read ℕ} b None (Some (n, rest))) (ne_eqb n own holds.1)

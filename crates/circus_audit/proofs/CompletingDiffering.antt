@@ -23,7 +23,7 @@ use Rattle.circus_audit.specs.declared.given.GivenEvent.{GivenEvent}
 use Rattle.circus_audit.specs.declared.noted.Differing.{Differing}
 use Rattle.circus_audit.specs.declared.differing.Replied.{Replied}
 use Rattle.circus_audit.specs.Seen.Answers.{from_some, whole, only_if}
-use Rattle.circus_audit.specs.Seen.Names.{named, other, name_at}
+use Rattle.circus_audit.specs.Seen.Names.{number_of_name, other, name_at}
 use Rattle.circus_audit.specs.Seen.Events.{other_behind}
 use Rattle.circus_audit.specs.Seen.Lines.{clock_behind}
 use Rattle.circus_audit.specs.Seen.Values.{outcome_behind}
@@ -62,7 +62,7 @@ module _ (plan : Plan) (own : ℕ) (names : AreNames (node_names plan)) where
   replied_complete p r rest can ends =
       let nodes = node_names plan in
       ap (λ t. replied_read nodes (length plan.names) own p (t ++ rest)) (reply_group (codes " ") (name_at nodes r.node) (codes " clock ") (clock_text r.reply.clock) (codes " ") (outcome_text r.reply.outcome))
-      ∙ three_complete (other_behind (codes " ") nodes own) (λ n. codes " " ++ name_at nodes n) (IsFrom plan own) (clock_behind (length plan.names)) (λ clock. codes " clock " ++ clock_text clock) (IsCount plan) (outcome_behind p) (λ o. codes " " ++ outcome_text o) (CanEnd p) replied_of (behind_complete (codes " ") (λ t. other own (named nodes t)) (name_at nodes) (IsFrom plan own) (other_complete nodes own names)) (clock_behind_complete (length plan.names)) (outcome_behind_complete p) r.node r.reply.clock r.reply.outcome rest can.0 can.1 can.2 refl refl ends
+      ∙ three_complete (other_behind (codes " ") nodes own) (λ n. codes " " ++ name_at nodes n) (IsFrom plan own) (clock_behind (length plan.names)) (λ clock. codes " clock " ++ clock_text clock) (IsCount plan) (outcome_behind p) (λ o. codes " " ++ outcome_text o) (CanEnd p) replied_of (behind_complete (codes " ") (λ t. other own (number_of_name nodes t)) (name_at nodes) (IsFrom plan own) (other_complete nodes own names)) (clock_behind_complete (length plan.names)) (outcome_behind_complete p) r.node r.reply.clock r.reply.outcome rest can.0 can.1 can.2 refl refl ends
 
   replies_complete : (p : ProcedureShape) (d : Differing) (first second : Replied) → d.replies ≡ said_text plan first ++ said_text plan second → CanReply plan own p first → CanReply plan own p second → replies_read (node_names plan) (length plan.names) own d p ≡ Some (difference_of d first second)
   replies_complete p d first second is one two =

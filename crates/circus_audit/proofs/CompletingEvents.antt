@@ -17,8 +17,8 @@ use Rattle.circus_audit.specs.Possible.{AreBytes, IsOther, CanCome, CanBeGiven}
 use Rattle.circus_audit.specs.RecordText.{what_came, Stray, IsStray}
 use Rattle.circus_audit.specs.declared.noted.Differing.{Differing}
 use Rattle.circus_audit.specs.Seen.Answers.{found, from_some, or_else, whole, only_if}
-use Rattle.circus_audit.specs.Seen.Names.{named, other, name_at}
-use Rattle.circus_audit.specs.Seen.Events.{addressed_by, foreign_read, bare_event, addressed, datagram_read, down_read, what_read, event_read, give_read, differing_read}
+use Rattle.circus_audit.specs.Seen.Names.{number_of_name, other, name_at}
+use Rattle.circus_audit.specs.Seen.Events.{addressed_by, foreign_read, bare_event, node_and_bytes, datagram_read, down_read, what_read, event_read, give_read, differing_read}
 use Rattle.circus_audit.specs.Seen.Reading.{node_names}
 use Rattle.circus_audit.proofs.SoundingEvents.{spelled, four_texts, give_of, differing_of}
 use Rattle.circus_audit.proofs.Completing.{AreNames, parts, stops, other_complete}
@@ -28,7 +28,7 @@ addressed_by_complete node bytes small =
     ap (λ r. from_some r (λ inner. option_map (λ bs. (node, bs)) (bytes_of inner))) (passed_front (codes " ") (encode_lower bytes))
     ∙ ap (option_map (λ bs. (node, bs))) (bytes_complete bytes small)
 
-pub addressed_complete : (nodes : List (List ℕ)) (own node : ℕ) (bytes : List ℕ) → AreNames nodes → (node < length nodes) × (node ≢ own) → AreBytes bytes → addressed nodes own (name_at nodes node ++ (codes " " ++ encode_lower bytes)) ≡ Some (node, bytes)
+pub addressed_complete : (nodes : List (List ℕ)) (own node : ℕ) (bytes : List ℕ) → AreNames nodes → (node < length nodes) × (node ≢ own) → AreBytes bytes → node_and_bytes nodes own (name_at nodes node ++ (codes " " ++ encode_lower bytes)) ≡ Some (node, bytes)
 addressed_complete nodes own node bytes names is small =
     ap (λ r. found r addressed_by) (other_complete nodes own names node (codes " " ++ encode_lower bytes) is refl)
     ∙ addressed_by_complete node bytes small
@@ -63,7 +63,7 @@ module _ (plan : Plan) (own : ℕ) (names : AreNames (node_names plan)) where
   what_complete (Some Tick) can = refl
   what_complete (Some (Down node)) can =
       let name = name_at (node_names plan) node in
-      let at : other own (named (node_names plan) name) ≡ Some (node, []) = ap (λ t. other own (named (node_names plan) t)) (sym (append-nil name)) ∙ other_complete (node_names plan) own names node [] (other_of node can) refl in
+      let at : other own (number_of_name (node_names plan) name) ≡ Some (node, []) = ap (λ t. other own (number_of_name (node_names plan) t)) (sym (append-nil name)) ∙ other_complete (node_names plan) own names node [] (other_of node can) refl in
       ap (λ r. or_else r (λ x. option_map (λ e. Some e) (down_read (node_names plan) own x)) (bare_event (codes "down " ++ name))) (passed_front (codes "down ") name)
       ∙ ap (λ r. option_map (λ (e : Event). Some e) (option_map (λ (n : ℕ). Down n) (whole r))) at
   what_complete (Some Join) can = refl

@@ -26,7 +26,7 @@ use Rattle.circus_audit.specs.declared.stage.Stage.{Stage}
 use Rattle.circus_audit.specs.declared.stage.Stage.TheVariants.{Events}
 use Rattle.circus_audit.specs.Seen.Names.{name_at}
 use Rattle.circus_audit.specs.Seen.Events.{differing_read}
-use Rattle.circus_audit.specs.Seen.Happening.{may_follow, with_last, begun}
+use Rattle.circus_audit.specs.Seen.Happening.{may_follow, with_last, begin_event}
 use Rattle.circus_audit.specs.Seen.Reading.{node_names, noted_by, stage_after}
 use Rattle.circus_audit.proofs.SoundingEvents.{spelled, four_texts}
 use Rattle.circus_audit.proofs.SoundingHappening.{differing_line}
@@ -92,15 +92,15 @@ module _ (plan : Plan) (own : ℕ) (hosted : Option Hosted) (names : AreNames (n
 
   -- ---- the lines of an event
 
-  event_reads : (h : Happened) (event : Option Event) → CanCome plan own event → length (noted_by h) < 2 ^ 32 → Reads plan own hosted (Events h) (event_line (length (noted_by h)) (what_came (spelled plan) event)) (Events (begun (noted_by h) event))
+  event_reads : (h : Happened) (event : Option Event) → CanCome plan own event → length (noted_by h) < 2 ^ 32 → Reads plan own hosted (Events h) (event_line (length (noted_by h)) (what_came (spelled plan) event)) (Events (begin_event (noted_by h) event))
   event_reads h event can few =
       let number = length (noted_by h) in
       let what = what_came (spelled plan) event in
       let inner = decimal number ++ (codes " " ++ what) in
       let clean = clean_both (codes "event ") inner refl (clean_both (decimal number) (codes " " ++ what) (decimal_clean number) (clean_both (codes " ") what refl (came_clean event can))) in
-      let read : stage_after plan own hosted (Events h) (codes "event " ++ inner) ≡ Some (Events (begun (noted_by h) event)) =
-      ap (λ r. option_map (λ (n : Happened). Events n) (option_map (begun (noted_by h)) r)) (event_complete plan own names number event few can) in
-      text_read plan own hosted (Events h) (Events (begun (noted_by h) event)) (line (codes "event " ++ inner)) (event_line number what) (ap line (four_texts (codes "event ") (decimal number) (codes " ") what)) (one_read plan own hosted (Events h) (codes "event " ++ inner) (Events (begun (noted_by h) event)) clean read)
+      let read : stage_after plan own hosted (Events h) (codes "event " ++ inner) ≡ Some (Events (begin_event (noted_by h) event)) =
+      ap (λ r. option_map (λ (n : Happened). Events n) (option_map (begin_event (noted_by h)) r)) (event_complete plan own names number event few can) in
+      text_read plan own hosted (Events h) (Events (begin_event (noted_by h) event)) (line (codes "event " ++ inner)) (event_line number what) (ap line (four_texts (codes "event ") (decimal number) (codes " ") what)) (one_read plan own hosted (Events h) (codes "event " ++ inner) (Events (begin_event (noted_by h) event)) clean read)
 
   abbrev giving_so : List Noted → Option Event → List Give → Stage
   giving_so earlier event gives = Events (with_last earlier Gives (noted_so event gives []))

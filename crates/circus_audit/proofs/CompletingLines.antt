@@ -25,8 +25,8 @@ use Rattle.circus_audit.specs.declared.member_line.After.{After}
 use Rattle.circus_audit.specs.declared.member_line.Phase.TheVariants.{Active}
 use Rattle.circus_audit.specs.Seen.Names.{name_at}
 use Rattle.circus_audit.specs.Seen.Answers.{whole}
-use Rattle.circus_audit.specs.Seen.Values.{values_behind, outcome_behind, by_shape, imported}
-use Rattle.circus_audit.specs.Seen.Lines.{name_behind, word_behind, numbered_step, clock_behind, root_read, entered_read, arguments_read, performs_read, run_begun, run_read, asked_read, state_read, wanted_read, ask_made, ask_read, after_read, answered, reply_by, reply_read, run_ended, end_by, end_read, idle_read, waiting_read, long_behind, step_behind, active_read, active_line}
+use Rattle.circus_audit.specs.Seen.Values.{values_behind, outcome_behind, by_shape, procedure_of_import}
+use Rattle.circus_audit.specs.Seen.Lines.{name_behind, word_behind, numbered_step, clock_behind, root_read, entered_read, arguments_read, performs_read, run_begun, run_read, asked_read, state_read, wanted_read, ask_made, ask_read, after_read, answer_ask, reply_by, reply_read, run_ended, end_by, end_read, idle_read, waiting_read, long_behind, step_behind, active_read, active_line}
 use Rattle.circus_audit.proofs.SoundingRuns.{entered_text, IsEntered, performs_text}
 use Rattle.circus_audit.proofs.SoundingAsks.{asked_text, IsAsked}
 use Rattle.circus_audit.proofs.SoundingLines.{IsAfter}
@@ -102,13 +102,13 @@ asked_complete : (modules : List (List ℕ)) (events number : ℕ) → AreNames 
 asked_complete modules events number names few short a rest is ends =
     three_complete (numbered_step number events) (λ n. decimal number ++ (codes " step " ++ decimal n)) (λ n. n < events) (name_behind (codes " to ") modules) (λ n. codes " to " ++ name_at modules n) (λ n. n < length modules) (long_behind (codes " index ")) (λ n. codes " index " ++ decimal n) (λ n. n < 2 ^ 32) asked_of (numbered_complete number events few short) (name_behind_complete (codes " to ") modules names) (long_complete (codes " index ")) a.asked a.callee a.index rest is.0 is.1 is.2 refl refl ends
 
-wanted_complete : (s : Signature) (a : Asked) (shape : ProcedureShape) (procedure : ℕ) (arguments state : List ValueTree) (rest : List ℕ) → imported s.imports a.callee procedure ≡ Some shape → all_fit shape.arguments arguments ≡ true → all_fit s.variables state ≡ true → parts rest ≡ true → wanted_read s a procedure (((codes " arguments " ++ shown_list arguments) ++ (codes " state " ++ shown_list state)) ++ rest) ≡ Some (ask_made a procedure arguments state, rest)
+wanted_complete : (s : Signature) (a : Asked) (shape : ProcedureShape) (procedure : ℕ) (arguments state : List ValueTree) (rest : List ℕ) → procedure_of_import s.imports a.callee procedure ≡ Some shape → all_fit shape.arguments arguments ≡ true → all_fit s.variables state ≡ true → parts rest ≡ true → wanted_read s a procedure (((codes " arguments " ++ shown_list arguments) ++ (codes " state " ++ shown_list state)) ++ rest) ≡ Some (ask_made a procedure arguments state, rest)
 wanted_complete s a shape procedure arguments state rest is fit fits ends =
     let text = ((codes " arguments " ++ shown_list arguments) ++ (codes " state " ++ shown_list state)) ++ rest in
     ap (λ o. by_shape o (λ p. and_then (values_behind (codes " arguments ") p.arguments text) (λ ts later. and_then (state_read s later) (λ us last. Some (ask_made a procedure ts us, last))))) is
     ∙ two_complete (values_behind (codes " arguments ") shape.arguments) (λ ts. codes " arguments " ++ shown_list ts) (λ ts. all_fit shape.arguments ts ≡ true) (state_read s) (λ ts. codes " state " ++ shown_list ts) (λ ts. all_fit s.variables ts ≡ true) (ask_made a procedure) (values_behind_complete (codes " arguments ") shape.arguments) (values_behind_complete (codes " state ") s.variables) arguments state rest fit fits refl ends
 
-pub ask_complete : (modules : List (List ℕ)) (s : Signature) (events number : ℕ) (a : Asked) (shape : ProcedureShape) (procedure : ℕ) (arguments state : List ValueTree) → AreNames modules → number < 2 ^ 32 → events < 2 ^ 64 → IsAsked modules events a → procedure < 2 ^ 16 → imported s.imports a.callee procedure ≡ Some shape → all_fit shape.arguments arguments ≡ true → all_fit s.variables state ≡ true → ask_read modules s events number (asked_text modules number a ++ ((codes " procedure " ++ decimal procedure) ++ ((codes " arguments " ++ shown_list arguments) ++ (codes " state " ++ shown_list state)))) ≡ Some (ask_made a procedure arguments state)
+pub ask_complete : (modules : List (List ℕ)) (s : Signature) (events number : ℕ) (a : Asked) (shape : ProcedureShape) (procedure : ℕ) (arguments state : List ValueTree) → AreNames modules → number < 2 ^ 32 → events < 2 ^ 64 → IsAsked modules events a → procedure < 2 ^ 16 → procedure_of_import s.imports a.callee procedure ≡ Some shape → all_fit shape.arguments arguments ≡ true → all_fit s.variables state ≡ true → ask_read modules s events number (asked_text modules number a ++ ((codes " procedure " ++ decimal procedure) ++ ((codes " arguments " ++ shown_list arguments) ++ (codes " state " ++ shown_list state)))) ≡ Some (ask_made a procedure arguments state)
 ask_complete modules s events number a shape procedure arguments state names few short is small found fit fits =
     let wants = (codes " arguments " ++ shown_list arguments) ++ (codes " state " ++ shown_list state) in
     let word = codes " procedure " ++ decimal procedure in
@@ -130,13 +130,13 @@ after_complete : (modules events number : ℕ) → number < 2 ^ 32 → events < 
 after_complete modules events number few short a rest is ends =
     two_complete (numbered_step number events) (λ n. decimal number ++ (codes " step " ++ decimal n)) (λ n. n < events) (clock_behind modules) (λ clock. codes " clock " ++ clock_text clock) (λ clock. (length clock ≡ modules) × AllByRecursion (λ n. n < 2 ^ 32) clock) after_of (numbered_complete number events few short) (clock_behind_complete modules) a.step a.clock rest is.0 (is.1, is.2) refl ends
 
-pub reply_complete : (modules : ℕ) (s : Signature) (events number : ℕ) (ask : AskRecord) (after : After) (shape : ProcedureShape) (reply : Outcome) → number < 2 ^ 32 → events < 2 ^ 64 → IsAfter modules events after → imported s.imports ask.callee ask.procedure ≡ Some shape → CanEnd shape reply → reply_read modules s events number ask (after_text number after ++ (codes " " ++ outcome_text reply)) ≡ Some (answered ask after reply)
+pub reply_complete : (modules : ℕ) (s : Signature) (events number : ℕ) (ask : AskRecord) (after : After) (shape : ProcedureShape) (reply : Outcome) → number < 2 ^ 32 → events < 2 ^ 64 → IsAfter modules events after → procedure_of_import s.imports ask.callee ask.procedure ≡ Some shape → CanEnd shape reply → reply_read modules s events number ask (after_text number after ++ (codes " " ++ outcome_text reply)) ≡ Some (answer_ask ask after reply)
 reply_complete modules s events number ask after shape reply few short is found can =
     let said = codes " " ++ outcome_text reply in
     let outcome = ap (outcome_behind shape) (sym (append-nil said)) ∙ outcome_behind_complete shape reply [] can refl in
     ap (λ r. whole (and_then r (λ x rest. reply_by s ask x rest))) (after_complete modules events number few short after said is refl)
-    ∙ ap (λ o. whole (by_shape o (λ p. and_then (outcome_behind p said) (λ x rest. Some (answered ask after x, rest))))) found
-    ∙ ap (λ r. whole (and_then r (λ x rest. Some (answered ask after x, rest)))) outcome
+    ∙ ap (λ o. whole (by_shape o (λ p. and_then (outcome_behind p said) (λ x rest. Some (answer_ask ask after x, rest))))) found
+    ∙ ap (λ r. whole (and_then r (λ x rest. Some (answer_ask ask after x, rest)))) outcome
 
 pub end_complete : (modules : ℕ) (s : Signature) (events place : ℕ) (run : RunRecord) (after : After) (shape : ProcedureShape) (outcome : Outcome) (state : List ValueTree) → place < 2 ^ 32 → events < 2 ^ 64 → IsAfter modules events after → procedure_numbered run.procedure s.procedures ≡ Some shape → CanEnd shape outcome → all_fit s.variables state ≡ true → end_read modules s events place run (after_text place after ++ ((codes " " ++ outcome_text outcome) ++ (codes " state " ++ shown_list state))) ≡ Some (run_ended run after outcome state)
 end_complete modules s events place run after shape outcome state few short is found can fits =

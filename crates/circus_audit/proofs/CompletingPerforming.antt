@@ -29,7 +29,7 @@ use Rattle.circus_audit.specs.declared.stage.Stage.{Stage}
 use Rattle.circus_audit.specs.declared.stage.Stage.TheVariants.{Runs}
 use Rattle.circus_audit.specs.Seen.Answers.{from_some}
 use Rattle.circus_audit.specs.Seen.Names.{name_at}
-use Rattle.circus_audit.specs.Seen.Lines.{run_begun, run_read, ask_made, answered, run_ended, end_read}
+use Rattle.circus_audit.specs.Seen.Lines.{run_begun, run_read, ask_made, answer_ask, run_ended, end_read}
 use Rattle.circus_audit.specs.Seen.Performing.{place_behind, on_with, with_ask, with_ended}
 use Rattle.circus_audit.specs.Seen.Reading.{after_line, stage_after}
 use Rattle.circus_audit.proofs.SoundingEvents.{spelled}
@@ -104,7 +104,7 @@ pub waiting_same : (run : RunRecord) (asks : List AskRecord) → run.asks ≡ as
 waiting_same run asks is o s a e = λ i. record run { asks = sym is i; outcome = sym o i; state = sym s i; end = sym a i; ended = sym e i }
 
 -- an ask that was answered
-answered_same : (ask : AskRecord) (reply : Outcome) (after : List ℕ) (step : ℕ) → ask.reply ≡ Some reply → ask.after ≡ Some after → ask.answered ≡ Some step → answered (made_of ask) (after_of step after) reply ≡ ask
+answered_same : (ask : AskRecord) (reply : Outcome) (after : List ℕ) (step : ℕ) → ask.reply ≡ Some reply → ask.after ≡ Some after → ask.answered ≡ Some step → answer_ask (made_of ask) (after_of step after) reply ≡ ask
 answered_same ask reply after step r a s = λ i. record ask { reply = sym r i; after = sym a i; answered = sym s i }
 
 -- an open one

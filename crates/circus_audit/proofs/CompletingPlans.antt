@@ -36,7 +36,7 @@ use Rattle.circus_config.specs.declared.plan.Plan.{Plan}
 use Rattle.circus_config.specs.Program.{IsPlan}
 use Rattle.circus_audit.specs.Possible.{declared_by}
 use Rattle.circus_audit.specs.Seen.Reading.{node_names}
-use Rattle.circus_audit.specs.Seen.Values.{imported}
+use Rattle.circus_audit.specs.Seen.Values.{procedure_of_import}
 use Rattle.circus_audit.proofs.Plans.{few_names}
 use Rattle.circus_audit.proofs.Completing.{AreNames}
 use Rattle.circus_audit.proofs.CompletingNames.{word_letters, host_letters, Differ, are_names}
@@ -272,7 +272,7 @@ pub record Wants (modules : ℕ) (imports : List Import) (callee number : ℕ) (
   pub callee_few : callee < modules
   pub few : number < 2 ^ 16
   pub shape : ProcedureShape
-  pub is_shape : imported imports callee number ≡ Some shape
+  pub is_shape : procedure_of_import imports callee number ≡ Some shape
   pub fit : all_fit shape.arguments arguments ≡ true
 
 pub wants_so : (modules : ℕ) (imports : List Import) (callee number : ℕ) (arguments : List ValueTree) → AllByRecursion (IsSmallImport modules) imports → import_takes imports callee number arguments ≡ true → Wants modules imports callee number arguments
@@ -294,7 +294,7 @@ wants_so modules imports callee number arguments small is = by_found (import_of 
 -- an import's procedure answers so
 pub record Answers (imports : List Import) (callee number : ℕ) (o : Outcome) : Type 0 where
   pub shape : ProcedureShape
-  pub is_shape : imported imports callee number ≡ Some shape
+  pub is_shape : procedure_of_import imports callee number ≡ Some shape
   pub can : CanEnd shape o
 
 pub answers_so : (modules : ℕ) (imports : List Import) (callee number : ℕ) (o : Outcome) → AllByRecursion (IsSmallImport modules) imports → import_answers imports callee number o ≡ true → Answers imports callee number o

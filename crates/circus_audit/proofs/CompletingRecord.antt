@@ -22,7 +22,7 @@ use Rattle.circus_audit.specs.declared.noted.Happened.{Happened}
 use Rattle.circus_audit.specs.declared.setting.Hosted.{Hosted}
 use Rattle.circus_audit.specs.declared.stage.Stage.TheVariants.{Events, Done}
 use Rattle.circus_audit.specs.Seen.Answers.{from_some, whole}
-use Rattle.circus_audit.specs.Seen.Names.{named, name_at}
+use Rattle.circus_audit.specs.Seen.Names.{number_of_name, name_at}
 use Rattle.circus_audit.specs.Seen.Reading.{node_names, own_read, nothing_happened, beginning, noted_by, events_by, given_by, stage_behind, hosted_by, lines_read, record_read}
 use Rattle.circus_audit.proofs.SoundingEvents.{spelled}
 use Rattle.circus_audit.proofs.SoundingRecord.{joined, names_are}
@@ -43,7 +43,7 @@ use Rattle.circus_audit.proofs.CompletingBounds.{noted_many, member_asks}
 
 pub own_complete : (plan : Plan) (own : ℕ) → AreNames (node_names plan) → own < length (node_names plan) → own_read plan (codes "circus node 1 " ++ name_at (node_names plan) own) ≡ Some own
 own_complete plan own names few =
-    ap whole (ap (named (node_names plan)) (sym (append-nil (name_at (node_names plan) own))) ∙ named_complete (node_names plan) names own [] few refl)
+    ap whole (ap (number_of_name (node_names plan)) (sym (append-nil (name_at (node_names plan) own))) ∙ named_complete (node_names plan) names own [] few refl)
 
 -- ---- events
 

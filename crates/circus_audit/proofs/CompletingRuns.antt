@@ -24,7 +24,7 @@ use Rattle.circus_audit.specs.declared.stage.Stage.{Stage}
 use Rattle.circus_audit.specs.declared.stage.Stage.TheVariants.{Runs, Done}
 use Rattle.circus_audit.specs.Seen.Answers.{from_some, only_if}
 use Rattle.circus_audit.specs.Seen.Lines.{run_ended, idle_read, waiting_read}
-use Rattle.circus_audit.specs.Seen.Performing.{finished, with_ask}
+use Rattle.circus_audit.specs.Seen.Performing.{finish_record, with_ask}
 use Rattle.circus_audit.specs.Seen.Reading.{after_line, stage_after}
 use Rattle.circus_audit.proofs.SoundingEvents.{spelled}
 use Rattle.circus_audit.proofs.SoundingTexts.{entry_line, made_line, runs_more, going_text, asked_text_more}
@@ -109,8 +109,8 @@ module _ (plan : Plan) (own : ℕ) (host : Hosted) (is_spelled : IsSpelled plan)
       let inner = codes " state " ++ shown_list state in
       let row = codes "now idle" ++ inner in
       let read : stage_after plan own (Some host) (stage runs Nothing) row ≡ Some (Done notes (Some kept) None) =
-      ap (λ t. option_map (after_line notes) (only_if t (option_map (finished from since count runs) (idle_read s inner)))) (eq-eqb (count_after from (length runs)) count (sym counted))
-      ∙ ap (λ r. option_map (after_line notes) (option_map (finished from since count runs) r)) (idle_complete s state fits) in
+      ap (λ t. option_map (after_line notes) (only_if t (option_map (finish_record from since count runs) (idle_read s inner)))) (eq-eqb (count_after from (length runs)) count (sym counted))
+      ∙ ap (λ r. option_map (after_line notes) (option_map (finish_record from since count runs) r)) (idle_complete s state fits) in
       let said : line row ≡ now_line kept =
       ap line (idle_row (codes "now ") (codes "idle") (codes " state ") (shown_list state)) ∙ ap (λ x. line (((codes "now " ++ x) ++ codes " state ") ++ shown_list state)) (sym (now_ended plan s (length notes) runs all)) in
       text_read plan own (Some host) (stage runs Nothing) (Done notes (Some kept) None) (line row) (now_line kept) said (one_read plan own (Some host) (stage runs Nothing) row (Done notes (Some kept) None) (clean_both (codes "now idle") inner refl (clean_both (codes " state ") (shown_list state) refl (list_clean state))) read)
@@ -124,9 +124,9 @@ module _ (plan : Plan) (own : ℕ) (host : Hosted) (is_spelled : IsSpelled plan)
       let inner = decimal number ++ (codes " state " ++ shown_list state) in
       let row = codes "now waiting ask " ++ inner in
       let read : stage_after plan own (Some host) (stage runs (Ask run ask)) row ≡ Some (Done notes (Some kept) None) =
-      ap (λ r. option_map (after_line notes) (from_some r (λ p. only_if (nat_eq p count) (option_map (finished from since count all) (waiting_read s number inner))))) (place_at plan own host is_spelled small notes short from since count runs within)
-      ∙ ap (λ t. option_map (after_line notes) (only_if t (option_map (finished from since count all) (waiting_read s number inner)))) (eq-eqb place count (sym counted))
-      ∙ ap (λ r. option_map (after_line notes) (option_map (finished from since count all) r)) (waiting_complete s number state few fits) in
+      ap (λ r. option_map (after_line notes) (from_some r (λ p. only_if (nat_eq p count) (option_map (finish_record from since count all) (waiting_read s number inner))))) (place_at plan own host is_spelled small notes short from since count runs within)
+      ∙ ap (λ t. option_map (after_line notes) (only_if t (option_map (finish_record from since count all) (waiting_read s number inner)))) (eq-eqb place count (sym counted))
+      ∙ ap (λ r. option_map (after_line notes) (option_map (finish_record from since count all) r)) (waiting_complete s number state few fits) in
       let said : line row ≡ now_line kept =
       ap line (waiting_row (codes "now ") (codes "waiting ask ") (decimal number) (codes " state ") (shown_list state)) ∙ ap (λ x. line (((codes "now " ++ x) ++ codes " state ") ++ shown_list state)) (sym (now_waiting plan s (length notes) runs run ask none)) in
       text_read plan own (Some host) (stage runs (Ask run ask)) (Done notes (Some kept) None) (line row) (now_line kept) said (one_read plan own (Some host) (stage runs (Ask run ask)) row (Done notes (Some kept) None) (clean_both (codes "now waiting ask ") inner refl (clean_both (decimal number) (codes " state " ++ shown_list state) (decimal_clean number) (clean_both (codes " state ") (shown_list state) refl (list_clean state)))) read)

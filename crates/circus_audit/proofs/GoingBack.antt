@@ -24,9 +24,9 @@ use Rattle.circus_audit.specs.declared.performed.After.{After}
 use Rattle.circus_audit.specs.declared.performed.After.TheVariants.{On, Last}
 use Rattle.circus_audit.specs.Seen.Answers.{from_some, or_else, only_if}
 use Rattle.circus_audit.specs.Seen.Events.{event_read, give_read, differing_read, foreign_read}
-use Rattle.circus_audit.specs.Seen.Happening.{all_noted, may_follow, open_for, with_last, begun, differing_added, foreign_passed, event_added, give_added, happened_after}
+use Rattle.circus_audit.specs.Seen.Happening.{all_noted, may_follow, open_for, with_last, begin_event, differing_added, foreign_passed, event_added, give_added, happened_after}
 use Rattle.circus_audit.specs.Seen.Lines.{run_read, ask_read, reply_read, end_read, idle_read, waiting_read}
-use Rattle.circus_audit.specs.Seen.Performing.{place_behind, on_with, finished, with_ask, with_ended, idles, waits, ask_begins, run_ends, run_goes_on, reply_comes, ask_goes_on, run_begins, next_read, performed_by, performed_after}
+use Rattle.circus_audit.specs.Seen.Performing.{place_behind, on_with, finish_record, with_ask, with_ended, idles, waits, ask_begins, run_ends, run_goes_on, reply_comes, ask_goes_on, run_begins, next_read, performed_by, performed_after}
 use Rattle.circus_audit.proofs.Opening.{from_is, map_is, only_is, or_is}
 use Rattle.circus_audit.proofs.SoundingLines.{reply_sound, end_sound}
 use Rattle.circus_audit.proofs.SoundingPerforming.{place_is, all_more}
@@ -71,7 +71,7 @@ module _ (P : Differing → Type 0) where
     event_back : (h : Happened) (text : List ℕ) (next : Happened) → event_added nodes own h text ≡ Some next → AllTell (all_noted next.earlier next.last) → AllTell (all_noted h.earlier h.last)
     event_back h text next is all =
         let earlier = all_noted h.earlier h.last in
-        let made = map_is (begun earlier) (event_read nodes own (length earlier) text) next is in
+        let made = map_is (begin_event earlier) (event_read nodes own (length earlier) text) next is in
         let told = subst (λ (n : Happened). AllTell (all_noted n.earlier n.last)) (sym made.2) all in
         tell_front earlier (record { event = made.0; gives = []; differing = [] } ∷ []) told
 
@@ -203,13 +203,13 @@ module _ (plan : Plan) (own : ℕ) (s : Signature) (kept : MemberRecord) (events
 
   -- ---- by any line
 
-  finished_is : (from since count : ℕ) (runs : List RunRecord) (state : List ValueTree) (k : MemberRecord) → finished from since count runs state ≡ Last k → (k.from ≡ from) × (k.count ≡ count) × (k.runs ≡ runs)
+  finished_is : (from since count : ℕ) (runs : List RunRecord) (state : List ValueTree) (k : MemberRecord) → finish_record from since count runs state ≡ Last k → (k.from ≡ from) × (k.count ≡ count) × (k.runs ≡ runs)
   finished_is from since count runs state k is =
       let same : ◌≡◌ {A = MemberRecord} (record { phase = joiner.Active from; from = from; active_at = since; count = count; runs = runs; state = state }) k = cc in
       (sym (ap (λ (x : MemberRecord). x.from) same), sym (ap (λ (x : MemberRecord). x.count) same), sym (ap (λ (x : MemberRecord). x.runs) same))
 
   -- what stands at the end of a line
-  as_last : (from since count : ℕ) (runs : List RunRecord) (state : List ValueTree) (after : After) → finished from since count runs state ≡ after → IsBeforeAfter after → (kept.from ≡ from) × (kept.count ≡ count) × (kept.runs ≡ runs)
+  as_last : (from since count : ℕ) (runs : List RunRecord) (state : List ValueTree) (after : After) → finish_record from since count runs state ≡ after → IsBeforeAfter after → (kept.from ≡ from) × (kept.count ≡ count) × (kept.runs ≡ runs)
   as_last from since count runs state (On q) is before = cc
   as_last from since count runs state (Last k) is before =
       let f = finished_is from since count runs state k is in
@@ -231,8 +231,8 @@ module _ (plan : Plan) (own : ℕ) (s : Signature) (kept : MemberRecord) (events
       idle : from_some (behind_prefix (codes "now idle") row) (idles s p) ≡ Some after → IsBefore plan own s kept (record p { current = Nothing })
       idle read =
           let opened = from_is (behind_prefix (codes "now idle") row) (idles s p) after read in
-          let test = only_is (nat_eq (count_after p.from (length p.runs)) p.count) (option_map (finished p.from p.since p.count p.runs) (idle_read s opened.0)) after opened.2 in
-          let made = map_is (finished p.from p.since p.count p.runs) (idle_read s opened.0) after test.1 in
+          let test = only_is (nat_eq (count_after p.from (length p.runs)) p.count) (option_map (finish_record p.from p.since p.count p.runs) (idle_read s opened.0)) after opened.2 in
+          let made = map_is (finish_record p.from p.since p.count p.runs) (idle_read s opened.0) after test.1 in
           let last = as_last p.from p.since p.count p.runs made.0 after made.2 before in
           idle_back p last.0 last.1 last.2 (eqb-true (count_after p.from (length p.runs)) p.count test.0)
 
@@ -272,9 +272,9 @@ module _ (plan : Plan) (own : ℕ) (s : Signature) (kept : MemberRecord) (events
       waiting : from_some (behind_prefix (codes "now waiting ask ") row) (waits s p run ask) ≡ Some after → IsBefore plan own s kept (record p { current = Ask run ask })
       waiting read =
           let opened = from_is (behind_prefix (codes "now waiting ask ") row) (waits s p run ask) after read in
-          let at = from_is (place_behind p.from (length p.runs)) (λ place. only_if (nat_eq place p.count) (option_map (finished p.from p.since p.count (p.runs ++ with_ask run ask ∷ [])) (waiting_read s (length run.asks) opened.0))) after opened.2 in
-          let test = only_is (nat_eq at.0 p.count) (option_map (finished p.from p.since p.count (p.runs ++ with_ask run ask ∷ [])) (waiting_read s (length run.asks) opened.0)) after at.2 in
-          let made = map_is (finished p.from p.since p.count (p.runs ++ with_ask run ask ∷ [])) (waiting_read s (length run.asks) opened.0) after test.1 in
+          let at = from_is (place_behind p.from (length p.runs)) (λ place. only_if (nat_eq place p.count) (option_map (finish_record p.from p.since p.count (p.runs ++ with_ask run ask ∷ [])) (waiting_read s (length run.asks) opened.0))) after opened.2 in
+          let test = only_is (nat_eq at.0 p.count) (option_map (finish_record p.from p.since p.count (p.runs ++ with_ask run ask ∷ [])) (waiting_read s (length run.asks) opened.0)) after at.2 in
+          let made = map_is (finish_record p.from p.since p.count (p.runs ++ with_ask run ask ∷ [])) (waiting_read s (length run.asks) opened.0) after test.1 in
           let here = place_is p.from (length p.runs) at.0 at.1 in
           let last = as_last p.from p.since p.count (p.runs ++ with_ask run ask ∷ []) made.0 after made.2 before in
           wait_back p run ask last.0 last.1 last.2 (sym here.0 ∙ eqb-true at.0 p.count test.0) here.1

@@ -22,7 +22,7 @@ use Rattle.circus_audit.specs.declared.performed.Performed.{Performed}
 use Rattle.circus_audit.specs.Seen.Answers.{from_some}
 use Rattle.circus_audit.specs.Seen.Differing.{ask_named, by_procedure, by_ask, difference_read, replies_read}
 use Rattle.circus_audit.specs.Seen.Reading.{node_names}
-use Rattle.circus_audit.specs.Seen.Values.{imported}
+use Rattle.circus_audit.specs.Seen.Values.{procedure_of_import}
 use Rattle.circus_audit.specs.Seen.Outlook.{can_run, any_asks, may_end, may_run, names, is_within, all_within, is_asked, all_asked, is_named, all_named, may_answer, answers_if, all_answer, some_procedure, some_import, suits, may_have_ended, ended_well, rests_well, performs_well, performs, can_come}
 use Rattle.circus_audit.proofs.Opening.{from_is, only_is}
 
@@ -93,13 +93,13 @@ module _ (plan : Plan) (own : ℕ) (s : Signature) (kept : MemberRecord) where
     pub is_ask : slice_get run.asks d.ask ≡ Some ask
     pub named : ask_named kept d.run d.ask ≡ Some ask
     pub shape : ProcedureShape
-    pub is_shape : imported s.imports ask.callee ask.procedure ≡ Some shape
-    pub answers : is_some (by_procedure (node_names plan) (length plan.names) own d (imported s.imports ask.callee ask.procedure)) ≡ true
+    pub is_shape : procedure_of_import s.imports ask.callee ask.procedure ≡ Some shape
+    pub answers : is_some (by_procedure (node_names plan) (length plan.names) own d (procedure_of_import s.imports ask.callee ask.procedure)) ≡ true
 
   pub has_ask : (d : Differing) → IsTold d → HasAsk d
   has_ask d told = by_named (ask_named kept d.run d.ask) refl told.1
     where
-      made : (ask : AskRecord) (p : ProcedureShape) → ask_named kept d.run d.ask ≡ Some ask → imported s.imports ask.callee ask.procedure ≡ Some p → replies_read (node_names plan) (length plan.names) own d p ≡ Some told.0 → HasAsk d
+      made : (ask : AskRecord) (p : ProcedureShape) → ask_named kept d.run d.ask ≡ Some ask → procedure_of_import s.imports ask.callee ask.procedure ≡ Some p → replies_read (node_names plan) (length plan.names) own d p ≡ Some told.0 → HasAsk d
       made ask p at shape read =
           let test = only_is (nat_le kept.from d.run) (from_some (slice_get kept.runs (d.run - kept.from)) (λ (r : RunRecord). slice_get r.asks d.ask)) ask at in
           let run = from_is (slice_get kept.runs (d.run - kept.from)) (λ (r : RunRecord). slice_get r.asks d.ask) ask test.1 in
@@ -115,12 +115,12 @@ module _ (plan : Plan) (own : ℕ) (s : Signature) (kept : MemberRecord) where
             answers = ap (λ o. is_some (by_procedure (node_names plan) (length plan.names) own d o)) shape ∙ ap is_some read;
           }
 
-      by_shape : (ask : AskRecord) (o : Option ProcedureShape) → ask_named kept d.run d.ask ≡ Some ask → imported s.imports ask.callee ask.procedure ≡ o → by_procedure (node_names plan) (length plan.names) own d o ≡ Some told.0 → HasAsk d
+      by_shape : (ask : AskRecord) (o : Option ProcedureShape) → ask_named kept d.run d.ask ≡ Some ask → procedure_of_import s.imports ask.callee ask.procedure ≡ o → by_procedure (node_names plan) (length plan.names) own d o ≡ Some told.0 → HasAsk d
       by_shape ask (Some p) at shape read = made ask p at shape read
       by_shape ask None at shape read = cc
 
       by_named : (o : Option AskRecord) → ask_named kept d.run d.ask ≡ o → by_ask (node_names plan) (length plan.names) own s.imports d o ≡ Some told.0 → HasAsk d
-      by_named (Some ask) at read = by_shape ask (imported s.imports ask.callee ask.procedure) at refl read
+      by_named (Some ask) at read = by_shape ask (procedure_of_import s.imports ask.callee ask.procedure) at refl read
       by_named None at read = cc
 
   -- ---- what is known of the record

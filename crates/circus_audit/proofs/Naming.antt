@@ -6,7 +6,7 @@ use Rattle.std.specs.Str.{bytes_eq}
 use Rattle.circus_collate.specs.declared.deployment.Host.{Host}
 use Rattle.circus_record.specs.Naming.{host_name}
 use Rattle.circus_value_text.specs.Reading.{read_meaning}
-use Rattle.circus_audit.specs.Seen.Names.{name_length, place_of, named}
+use Rattle.circus_audit.specs.Seen.Names.{name_length, place_of, number_of_name}
 
 place_or_len : (nodes : List Host) (name : List ℕ) → position_or_len (λ (h : Host). bytes_eq h.name name) nodes ≡ position_or_len (λ each. bytes_eq each name) (map host_name nodes)
 place_or_len [] name = refl
@@ -19,14 +19,14 @@ place_map nodes name =
     let all = sym (length-map nodes host_name) in
     λ i. cond (nat_lt (same i) (all i)) (Some (same i)) None
 
-named_by : (names : List (List ℕ)) (text rest : List ℕ) (at len : ℕ) → rest ≡ drop at text → len ≡ name_length rest → named names (drop at text) ≡ read_meaning (place_of names (take len rest)) (drop len rest)
-named_by names text rest at len is value = ap (named names) (sym is) ∙ (λ i. read_meaning (place_of names (take (sym value i) rest)) (drop (sym value i) rest))
+named_by : (names : List (List ℕ)) (text rest : List ℕ) (at len : ℕ) → rest ≡ drop at text → len ≡ name_length rest → number_of_name names (drop at text) ≡ read_meaning (place_of names (take len rest)) (drop len rest)
+named_by names text rest at len is value = ap (number_of_name names) (sym is) ∙ (λ i. read_meaning (place_of names (take (sym value i) rest)) (drop (sym value i) rest))
 
-pub named_found : (names : List (List ℕ)) (text rest : List ℕ) (at len n : ℕ) → rest ≡ drop at text → len ≡ name_length rest → len ≤ length rest → at ≤ length text → place_of names (take len rest) ≡ Some n → (at + len ≤ length text) × (named names (drop at text) ≡ Some (n, drop (at + len) text))
+pub named_found : (names : List (List ℕ)) (text rest : List ℕ) (at len n : ℕ) → rest ≡ drop at text → len ≡ name_length rest → len ≤ length rest → at ≤ length text → place_of names (take len rest) ≡ Some n → (at + len ≤ length text) × (number_of_name names (drop at text) ≡ Some (n, drop (at + len) text))
 named_found names text rest at len n is value few within found =
     let shorter : length rest ≡ length text - at = ap length is ∙ length-drop at text in
     let later : drop len rest ≡ drop (at + len) text = ap (drop len) is ∙ simp drop-drop in
     (omega (arith, shorter, few, within), named_by names text rest at len is value ∙ ap (λ o. read_meaning o (drop len rest)) found ∙ ap (λ x. Some (n, x)) later)
 
-pub named_missing : (names : List (List ℕ)) (text rest : List ℕ) (at len : ℕ) → rest ≡ drop at text → len ≡ name_length rest → place_of names (take len rest) ≡ None → named names (drop at text) ≡ None
+pub named_missing : (names : List (List ℕ)) (text rest : List ℕ) (at len : ℕ) → rest ≡ drop at text → len ≡ name_length rest → place_of names (take len rest) ≡ None → number_of_name names (drop at text) ≡ None
 named_missing names text rest at len is value missing = named_by names text rest at len is value ∙ ap (λ o. read_meaning o (drop len rest)) missing

@@ -17,8 +17,8 @@ use Rattle.circus_value_text.proofs.Marks.{pair_is, and_then_some}
 use Rattle.circus_audit.specs.declared.member_line.Asked.{Asked}
 use Rattle.circus_audit.specs.declared.member_line.After.{After}
 use Rattle.circus_audit.specs.Seen.Names.{name_at}
-use Rattle.circus_audit.specs.Seen.Values.{values_behind, outcome_behind, imported}
-use Rattle.circus_audit.specs.Seen.Lines.{numbered_step, name_behind, long_behind, state_read, asked_read, ask_made, wanted_read, answered, reply_by}
+use Rattle.circus_audit.specs.Seen.Values.{values_behind, outcome_behind, procedure_of_import}
+use Rattle.circus_audit.specs.Seen.Lines.{numbered_step, name_behind, long_behind, state_read, asked_read, ask_made, wanted_read, answer_ask, reply_by}
 use Rattle.circus_audit.proofs.Sounding.{Sounds, numbered_sound, long_sound}
 use Rattle.circus_audit.proofs.SoundingValues.{values_behind_sound, outcome_behind_sound}
 use Rattle.circus_audit.proofs.SoundingMember.{two_sound, three_sound}
@@ -56,7 +56,7 @@ pub record IsWanted (s : Signature) (a : Asked) (procedure : ℕ) (text : List �
 
 pub wanted_sound : (s : Signature) (a : Asked) (procedure : ℕ) (text : List ℕ) (ask : AskRecord) (rest : List ℕ) → wanted_read s a procedure text ≡ Some (ask, rest) → IsWanted s a procedure text ask rest
 wanted_sound s a procedure text ask rest is =
-    let shape = by_shape_some (imported s.imports a.callee procedure) (λ p. and_then (values_behind (codes " arguments ") p.arguments text) (λ arguments r. and_then (state_read s r) (λ state later. Some (ask_made a procedure arguments state, later)))) (ask, rest) is in
+    let shape = by_shape_some (procedure_of_import s.imports a.callee procedure) (λ p. and_then (values_behind (codes " arguments ") p.arguments text) (λ arguments r. and_then (state_read s r) (λ state later. Some (ask_made a procedure arguments state, later)))) (ask, rest) is in
     let r = two_sound (values_behind (codes " arguments ") shape.0.arguments) (λ ts. codes " arguments " ++ shown_list ts) (λ ts. all_fit shape.0.arguments ts ≡ true) (state_read s) (λ ts. codes " state " ++ shown_list ts) (λ ts. all_fit s.variables ts ≡ true) (λ arguments state. ask_made a procedure arguments state) (values_behind_sound (codes " arguments ") shape.0.arguments) (values_behind_sound (codes " state ") s.variables) text ask rest shape.2 in
     record {
       arguments = r.0;
@@ -72,16 +72,16 @@ wanted_sound s a procedure text ask rest is =
 -- a reply to an ask
 pub record IsReplied (s : Signature) (ask : AskRecord) (after : After) (text : List ℕ) (replied : AskRecord) (rest : List ℕ) : Type 0 where
   pub reply : Outcome
-  pub is_replied : replied ≡ answered ask after reply
+  pub is_replied : replied ≡ answer_ask ask after reply
   pub text_is : text ≡ (codes " " ++ outcome_text reply) ++ rest
   pub answers : import_answers s.imports ask.callee ask.procedure reply ≡ true
 
 pub reply_by_sound : (s : Signature) (ask : AskRecord) (after : After) (text : List ℕ) (replied : AskRecord) (rest : List ℕ) → reply_by s ask after text ≡ Some (replied, rest) → IsReplied s ask after text replied rest
 reply_by_sound s ask after text replied rest is =
-    let shape = by_shape_some (imported s.imports ask.callee ask.procedure) (λ p. and_then (outcome_behind p text) (λ reply r. Some (answered ask after reply, r))) (replied, rest) is in
-    let x = and_then_some (outcome_behind shape.0 text) (λ reply r. Some (answered ask after reply, r)) (replied, rest) shape.2 in
+    let shape = by_shape_some (procedure_of_import s.imports ask.callee ask.procedure) (λ p. and_then (outcome_behind p text) (λ reply r. Some (answer_ask ask after reply, r))) (replied, rest) is in
+    let x = and_then_some (outcome_behind shape.0 text) (λ reply r. Some (answer_ask ask after reply, r)) (replied, rest) shape.2 in
     let one = outcome_behind_sound shape.0 text x.0.0 x.0.1 x.1 in
-    let parts = pair_is (answered ask after x.0.0) replied x.0.1 rest x.2 in
+    let parts = pair_is (answer_ask ask after x.0.0) replied x.0.1 rest x.2 in
     record {
       reply = x.0.0;
       is_replied = sym parts.0;

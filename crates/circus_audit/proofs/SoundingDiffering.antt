@@ -27,10 +27,10 @@ use Rattle.circus_audit.specs.declared.noted.Differing.{Differing}
 use Rattle.circus_audit.specs.declared.noted.Noted.{Noted}
 use Rattle.circus_audit.specs.declared.differing.Replied.{Replied}
 use Rattle.circus_audit.specs.Seen.Answers.{from_some}
-use Rattle.circus_audit.specs.Seen.Names.{named, other, name_at}
+use Rattle.circus_audit.specs.Seen.Names.{number_of_name, other, name_at}
 use Rattle.circus_audit.specs.Seen.Events.{other_behind}
 use Rattle.circus_audit.specs.Seen.Lines.{clock_behind}
-use Rattle.circus_audit.specs.Seen.Values.{outcome_behind, imported}
+use Rattle.circus_audit.specs.Seen.Values.{outcome_behind, procedure_of_import}
 use Rattle.circus_audit.specs.Seen.Differing.{each_read, ask_named, event_with, nothing_differs, difference_of, replied_read, replies_parts, replies_read, by_procedure, by_ask, difference_read, event_of, event_apart}
 use Rattle.circus_audit.specs.Seen.Reading.{node_names}
 use Rattle.circus_audit.proofs.Opening.{from_is, map_is, only_is}
@@ -67,7 +67,7 @@ said_text plan r = reply_text (spelled plan) r.node r.reply
 replied_sound : (plan : Plan) (own : ℕ) (p : ProcedureShape) → Sounds (replied_read (node_names plan) (length plan.names) own p) (said_text plan) (CanReply plan own p)
 replied_sound plan own p text r rest is =
     let nodes = node_names plan in
-    let x = three_sound (other_behind (codes " ") nodes own) (λ n. codes " " ++ name_at nodes n) (IsFrom plan own) (clock_behind (length plan.names)) (λ clock. codes " clock " ++ clock_text clock) (IsCount plan) (outcome_behind p) (λ o. codes " " ++ outcome_text o) (λ o. outcome_fits p o ≡ true) replied_of (behind_sound (codes " ") (λ t. other own (named nodes t)) (name_at nodes) (IsFrom plan own) (other_sound nodes own)) (clock_behind_sound (length plan.names)) (outcome_behind_sound p) text r rest is in (
+    let x = three_sound (other_behind (codes " ") nodes own) (λ n. codes " " ++ name_at nodes n) (IsFrom plan own) (clock_behind (length plan.names)) (λ clock. codes " clock " ++ clock_text clock) (IsCount plan) (outcome_behind p) (λ o. codes " " ++ outcome_text o) (λ o. outcome_fits p o ≡ true) replied_of (behind_sound (codes " ") (λ t. other own (number_of_name nodes t)) (name_at nodes) (IsFrom plan own) (other_sound nodes own)) (clock_behind_sound (length plan.names)) (outcome_behind_sound p) text r rest is in (
       x.4 ∙ ap (λ w. w ++ rest) (replied_text (codes " ") (name_at nodes x.0) (codes " clock ") (clock_text x.1) (codes " ") (outcome_text x.2)) ∙ ap (λ y. said_text plan y ++ rest) (sym x.3),
       subst (CanReply plan own p) (sym x.3) (x.5, x.6, x.7),
     )
@@ -108,7 +108,7 @@ pub record IsTold (plan : Plan) (own : ℕ) (hosted : Option ℕ) (member : Opti
   pub can : CanDiffer plan own hosted member difference
 
 module _ (plan : Plan) (own : ℕ) (hosted : Option ℕ) (member : Option MemberRecord) (s : Signature) (kept : MemberRecord) (declared : option_map_or (declared_by plan) hosted None ≡ Some s) (is_kept : member ≡ Some kept) where
-  told : (d : Differing) (difference : Difference) (ask : AskRecord) (p : ProcedureShape) → IsFewDiffering plan own d → ask_named kept d.run d.ask ≡ Some ask → imported s.imports ask.callee ask.procedure ≡ Some p → AreReplies plan own p d difference → IsTold plan own hosted member d difference
+  told : (d : Differing) (difference : Difference) (ask : AskRecord) (p : ProcedureShape) → IsFewDiffering plan own d → ask_named kept d.run d.ask ≡ Some ask → procedure_of_import s.imports ask.callee ask.procedure ≡ Some p → AreReplies plan own p d difference → IsTold plan own hosted member d difference
   told d difference ask p few asked shape r =
       let made = sym r.is_difference in
       let first : Difference = difference_of d r.first r.second in
@@ -132,12 +132,12 @@ module _ (plan : Plan) (own : ℕ) (hosted : Option ℕ) (member : Option Member
   difference_sound : (d : Differing) (difference : Difference) → IsFewDiffering plan own d → difference_read (node_names plan) (length plan.names) own s.imports kept d ≡ Some difference → IsTold plan own hosted member d difference
   difference_sound d difference few is = by_named (ask_named kept d.run d.ask) refl is
     where
-      by_shape : (ask : AskRecord) (o : Option ProcedureShape) → ask_named kept d.run d.ask ≡ Some ask → imported s.imports ask.callee ask.procedure ≡ o → by_procedure (node_names plan) (length plan.names) own d o ≡ Some difference → IsTold plan own hosted member d difference
+      by_shape : (ask : AskRecord) (o : Option ProcedureShape) → ask_named kept d.run d.ask ≡ Some ask → procedure_of_import s.imports ask.callee ask.procedure ≡ o → by_procedure (node_names plan) (length plan.names) own d o ≡ Some difference → IsTold plan own hosted member d difference
       by_shape ask (Some p) asked shape read = told d difference ask p few asked shape (replies_sound plan own p d difference read)
       by_shape ask None asked shape read = cc
 
       by_named : (o : Option AskRecord) → ask_named kept d.run d.ask ≡ o → by_ask (node_names plan) (length plan.names) own s.imports d o ≡ Some difference → IsTold plan own hosted member d difference
-      by_named (Some ask) asked read = by_shape ask (imported s.imports ask.callee ask.procedure) asked refl read
+      by_named (Some ask) asked read = by_shape ask (procedure_of_import s.imports ask.callee ask.procedure) asked refl read
       by_named None asked read = cc
 
   differences_sound : (ds : List Differing) (differences : List Difference) → AllByRecursion (IsFewDiffering plan own) ds → each_read (difference_read (node_names plan) (length plan.names) own s.imports kept) ds ≡ Some differences → (flat_map differing_line ds ≡ flat_map (differ_line (spelled plan)) differences) × AllByRecursion (CanDiffer plan own hosted member) differences

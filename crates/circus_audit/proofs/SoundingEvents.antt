@@ -20,8 +20,8 @@ use Rattle.circus_audit.specs.Possible.{AreBytes, IsOther, CanCome, CanBeGiven}
 use Rattle.circus_audit.specs.RecordText.{what_came, IsStray}
 use Rattle.circus_audit.specs.declared.noted.Differing.{Differing}
 use Rattle.circus_audit.specs.Seen.Answers.{found, from_some, or_else, whole, only_if}
-use Rattle.circus_audit.specs.Seen.Names.{named, other, name_at}
-use Rattle.circus_audit.specs.Seen.Events.{addressed_by, foreign_read, bare_event, addressed, datagram_read, down_read, what_read, event_read, give_read, differing_read}
+use Rattle.circus_audit.specs.Seen.Names.{number_of_name, other, name_at}
+use Rattle.circus_audit.specs.Seen.Events.{addressed_by, foreign_read, bare_event, node_and_bytes, datagram_read, down_read, what_read, event_read, give_read, differing_read}
 use Rattle.circus_audit.specs.Seen.Reading.{node_names}
 use Rattle.circus_audit.proofs.Opening.{found_is, from_is, map_is, only_is, or_is}
 use Rattle.circus_audit.proofs.Sounding.{Sounds, whole_some}
@@ -37,9 +37,9 @@ four_texts a b c d = simp append_assoc
 
 -- ---- pieces of lines
 
-pub other_sound : (nodes : List (List ℕ)) (own : ℕ) → Sounds (λ text. other own (named nodes text)) (name_at nodes) (λ n. (n < length nodes) × (n ≢ own))
+pub other_sound : (nodes : List (List ℕ)) (own : ℕ) → Sounds (λ text. other own (number_of_name nodes text)) (name_at nodes) (λ n. (n < length nodes) × (n ≢ own))
 other_sound nodes own text n rest is =
-    let x = and_then_some (named nodes text) (λ m later. cond {A = Read ℕ} (nat_eq m own) None (Some (m, later))) (n, rest) is in
+    let x = and_then_some (number_of_name nodes text) (λ m later. cond {A = Read ℕ} (nat_eq m own) None (Some (m, later))) (n, rest) is in
     let one = named_sound nodes text x.0.0 x.0.1 x.1 in
     by_test x.0.0 x.0.1 one.0 one.1 (nat_eq x.0.0 own) refl x.2
   where
@@ -59,9 +59,9 @@ addressed_by_sound node text r is =
       subst (λ (p : ℕ × List ℕ). AreBytes p.1) made.2 bytes.1,
     )
 
-pub addressed_sound : (nodes : List (List ℕ)) (own : ℕ) (text : List ℕ) (r : ℕ × List ℕ) → addressed nodes own text ≡ Some r → (text ≡ name_at nodes r.0 ++ (codes " " ++ encode_lower r.1)) × ((r.0 < length nodes) × (r.0 ≢ own)) × AreBytes r.1
+pub addressed_sound : (nodes : List (List ℕ)) (own : ℕ) (text : List ℕ) (r : ℕ × List ℕ) → node_and_bytes nodes own text ≡ Some r → (text ≡ name_at nodes r.0 ++ (codes " " ++ encode_lower r.1)) × ((r.0 < length nodes) × (r.0 ≢ own)) × AreBytes r.1
 addressed_sound nodes own text r is =
-    let x = found_is (other own (named nodes text)) addressed_by r is in
+    let x = found_is (other own (number_of_name nodes text)) addressed_by r is in
     let one = other_sound nodes own text x.0.0 x.0.1 x.1 in
     let two = addressed_by_sound x.0.0 x.0.1 r x.2 in
     (one.0 ∙ (λ i. name_at nodes (sym two.1 i) ++ two.0 i), subst (λ k. (k < length nodes) × (k ≢ own)) (sym two.1) one.1, two.2)
@@ -117,7 +117,7 @@ module _ (plan : Plan) (own : ℕ) where
       datagram : (inner : List ℕ) → behind_prefix (codes "datagram ") text ≡ Some inner → option_map (λ (e : Event). Some e) (datagram_read (node_names plan) own inner) ≡ Some event → (text ≡ what_came (spelled plan) event) × CanCome plan own event
       datagram inner mark is =
           let made = map_is (λ (e : Event). Some e) (datagram_read (node_names plan) own inner) event is in
-          let built = map_is (λ (r : ℕ × List ℕ). Datagram r.0 r.1) (addressed (node_names plan) own inner) made.0 made.1 in
+          let built = map_is (λ (r : ℕ × List ℕ). Datagram r.0 r.1) (node_and_bytes (node_names plan) own inner) made.0 made.1 in
           let a = addressed_sound (node_names plan) own inner built.0 built.1 in
           let same : Some (Datagram built.0.0 built.0.1) ≡ event = ap (λ (e : Event). Some e) built.2 ∙ made.2 in (
             passed_stands (codes "datagram ") text inner mark ∙ ap (λ x. codes "datagram " ++ x) a.0 ∙ four_texts (codes "datagram ") (name_at (node_names plan) built.0.0) (codes " ") (encode_lower built.0.1) ∙ ap (what_came (spelled plan)) same,
@@ -127,8 +127,8 @@ module _ (plan : Plan) (own : ℕ) where
       down : (inner : List ℕ) → behind_prefix (codes "down ") text ≡ Some inner → option_map (λ (e : Event). Some e) (down_read (node_names plan) own inner) ≡ Some event → (text ≡ what_came (spelled plan) event) × CanCome plan own event
       down inner mark is =
           let made = map_is (λ (e : Event). Some e) (down_read (node_names plan) own inner) event is in
-          let built = map_is (λ (n : ℕ). Down n) (whole (other own (named (node_names plan) inner))) made.0 made.1 in
-          let w = whole_some (other own (named (node_names plan) inner)) built.0 built.1 in
+          let built = map_is (λ (n : ℕ). Down n) (whole (other own (number_of_name (node_names plan) inner))) made.0 made.1 in
+          let w = whole_some (other own (number_of_name (node_names plan) inner)) built.0 built.1 in
           let a = other_sound (node_names plan) own inner built.0 w.0 w.1 in
           let name : inner ≡ name_at (node_names plan) built.0 = a.0 ∙ ap (λ x. name_at (node_names plan) built.0 ++ x) w.2 ∙ append-nil (name_at (node_names plan) built.0) in
           let same : Some (Down built.0) ≡ event = ap (λ (e : Event). Some e) built.2 ∙ made.2 in (
@@ -161,6 +161,6 @@ module _ (plan : Plan) (own : ℕ) where
 
   pub give_sound : (text : List ℕ) (give : Give) → give_read (node_names plan) own text ≡ Some give → (text ≡ name_at (node_names plan) give.to ++ (codes " " ++ encode_lower give.bytes)) × CanBeGiven plan own give
   give_sound text give is =
-      let made = map_is give_of (addressed (node_names plan) own text) give is in
+      let made = map_is give_of (node_and_bytes (node_names plan) own text) give is in
       let a = addressed_sound (node_names plan) own text made.0 made.1 in
       (a.0 ∙ ap (λ (g : Give). name_at (node_names plan) g.to ++ (codes " " ++ encode_lower g.bytes)) made.2, subst (CanBeGiven plan own) made.2 (other_is made.0.0 a.1, a.2))

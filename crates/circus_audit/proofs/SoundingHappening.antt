@@ -21,7 +21,7 @@ use Rattle.circus_audit.specs.declared.noted.Kind.TheVariants.{Gives, Difference
 use Rattle.circus_audit.specs.declared.noted.Happened.{Happened}
 use Rattle.circus_audit.specs.Seen.Answers.{from_some, or_else, only_if}
 use Rattle.circus_audit.specs.Seen.Events.{event_read, give_read, differing_read, foreign_read}
-use Rattle.circus_audit.specs.Seen.Happening.{all_noted, may_follow, open_for, with_last, begun, differing_added, foreign_passed, event_added, give_added, happened_after}
+use Rattle.circus_audit.specs.Seen.Happening.{all_noted, may_follow, open_for, with_last, begin_event, differing_added, foreign_passed, event_added, give_added, happened_after}
 use Rattle.circus_audit.specs.Seen.Names.{name_at}
 use Rattle.circus_audit.specs.Seen.Reading.{node_names}
 use Rattle.circus_audit.proofs.Opening.{from_is, map_is, only_is, or_is}
@@ -198,7 +198,7 @@ module _ (plan : Plan) (own : ℕ) where
   event_step : (h : Happened) (inner text : List ℕ) (next : Happened) → event_added (node_names plan) own h inner ≡ Some next → Happens h text → Happens next (text ++ line (codes "event " ++ inner))
   event_step h inner text next is happens =
       let earlier = all_noted h.earlier h.last in
-      let made = map_is (begun earlier) (event_read (node_names plan) own (length earlier) inner) next is in
+      let made = map_is (begin_event earlier) (event_read (node_names plan) own (length earlier) inner) next is in
       let e = event_sound plan own (length earlier) inner made.0 made.1 in
       let n : Noted = record { event = made.0; gives = []; differing = [] } in
       let here = event_line (length earlier) (what_came (spelled plan) made.0) in

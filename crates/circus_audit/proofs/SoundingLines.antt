@@ -23,7 +23,7 @@ use Rattle.circus_audit.specs.declared.member_line.Asked.{Asked}
 use Rattle.circus_audit.specs.declared.member_line.After.{After}
 use Rattle.circus_audit.specs.Seen.Names.{name_at}
 use Rattle.circus_audit.specs.Seen.Values.{outcome_behind}
-use Rattle.circus_audit.specs.Seen.Lines.{behind_this, word_behind, entered_read, performs_read, run_begun, run_parts, run_read, asked_read, wanted_read, ask_made, ask_parts, ask_read, after_read, answered, reply_by, reply_parts, reply_read, run_ended, end_by, end_parts, end_read, state_read, idle_read, waiting_read}
+use Rattle.circus_audit.specs.Seen.Lines.{behind_this, word_behind, entered_read, performs_read, run_begun, run_parts, run_read, asked_read, wanted_read, ask_made, ask_parts, ask_read, after_read, answer_ask, reply_by, reply_parts, reply_read, run_ended, end_by, end_parts, end_read, state_read, idle_read, waiting_read}
 use Rattle.circus_audit.proofs.Sounding.{whole_some, word_sound, this_sound}
 use Rattle.circus_audit.proofs.SoundingValues.{values_behind_sound, outcome_behind_sound}
 use Rattle.circus_audit.proofs.SoundingMember.{two_sound, after_sound}
@@ -115,7 +115,7 @@ IsAfter modules events a = (a.step < events) × (length a.clock ≡ modules) × 
 pub record IsReplyLine (modules : ℕ) (s : Signature) (events number : ℕ) (ask : AskRecord) (text : List ℕ) (replied : AskRecord) : Type 0 where
   pub after : After
   pub reply : Outcome
-  pub is_replied : replied ≡ answered ask after reply
+  pub is_replied : replied ≡ answer_ask ask after reply
   pub text_is : line (codes "reply " ++ text) ≡ reply_line number (Some after.step) after.clock reply
   pub is_after : IsAfter modules events after
   pub answers : import_answers s.imports ask.callee ask.procedure reply ≡ true

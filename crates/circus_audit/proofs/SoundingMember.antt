@@ -13,7 +13,7 @@ use Rattle.circus_audit.specs.declared.member_line.Phase.{Phase}
 use Rattle.circus_audit.specs.declared.member_line.Phase.TheVariants.{Apart, Active}
 use Rattle.circus_audit.specs.declared.member_line.After.{After}
 use Rattle.circus_audit.specs.Seen.Lines.{long_behind, numbered_step, step_behind, clock_behind, active_read, after_read}
-use Rattle.circus_audit.specs.Seen.Names.{name_length, place_of, named, name_at}
+use Rattle.circus_audit.specs.Seen.Names.{name_length, place_of, number_of_name, name_at}
 use Rattle.circus_audit.proofs.Sounding.{Sounds, long_sound, step_behind_sound, numbered_sound, clock_behind_sound}
 
 -- what is read of two texts, one behind the other
@@ -70,7 +70,7 @@ meant_some : {A : Type 0} (r : Option A) (later : List ℕ) (a : A) (rest : List
 meant_some (Some b) later a rest is = let parts = pair_is b a later rest is in ((λ i. Some (parts.0 i)), parts.1)
 meant_some None later a rest is = cc
 
-pub named_sound : (names : List (List ℕ)) → Sounds (named names) (name_at names) (λ n. n < length names)
+pub named_sound : (names : List (List ℕ)) → Sounds (number_of_name names) (name_at names) (λ n. n < length names)
 named_sound names text n rest is =
     let k = name_length text in
     let parts = meant_some (place_of names (take k text)) (drop k text) n rest is in

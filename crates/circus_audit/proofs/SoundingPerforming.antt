@@ -28,7 +28,7 @@ use Rattle.circus_audit.specs.declared.performed.After.{After}
 use Rattle.circus_audit.specs.declared.performed.After.TheVariants.{On, Last}
 use Rattle.circus_audit.specs.Seen.Answers.{from_some, only_if}
 use Rattle.circus_audit.specs.Seen.Lines.{run_begun, run_read, ask_read, reply_read, end_read, idle_read, waiting_read}
-use Rattle.circus_audit.specs.Seen.Performing.{place_behind, on_with, finished, with_ask, with_ended, idles, waits, ask_begins, run_ends, run_goes_on, reply_comes, ask_goes_on, run_begins, next_read, performed_by, performed_after}
+use Rattle.circus_audit.specs.Seen.Performing.{place_behind, on_with, finish_record, with_ask, with_ended, idles, waits, ask_begins, run_ends, run_goes_on, reply_comes, ask_goes_on, run_begins, next_read, performed_by, performed_after}
 use Rattle.circus_audit.proofs.Opening.{from_is, map_is, only_is, or_is}
 use Rattle.circus_audit.proofs.SoundingEvents.{spelled}
 use Rattle.circus_audit.proofs.SoundingLines.{IsRunLine, run_sound, ask_sound, reply_sound, end_sound, idle_sound, waiting_sound}
@@ -275,7 +275,7 @@ module _ (plan : Plan) (s : Signature) (events : ℕ) where
         text_is = (λ i. acts.text_is i ++ added i) ∙ sym (last_run_text p.from p.runs run ended (end_line (p.from + length p.runs) (Some r.after.step) r.after.clock r.outcome r.state) more) ∙ ap (runs_lines (spelled plan) p.from) (sym (append-nil (p.runs ++ ended ∷ [])));
       }
 
-  idle_step : (p : Performed) (inner text : List ℕ) (state : List ValueTree) (kept : MemberRecord) → Acts p.from p.since p.runs Nothing text → count_after p.from (length p.runs) ≡ p.count → idle_read s inner ≡ Some state → finished p.from p.since p.count p.runs state ≡ Last kept → HasActed p.from p.since p.count kept (text ++ line (codes "now idle" ++ inner))
+  idle_step : (p : Performed) (inner text : List ℕ) (state : List ValueTree) (kept : MemberRecord) → Acts p.from p.since p.runs Nothing text → count_after p.from (length p.runs) ≡ p.count → idle_read s inner ≡ Some state → finish_record p.from p.since p.count p.runs state ≡ Last kept → HasActed p.from p.since p.count kept (text ++ line (codes "now idle" ++ inner))
   idle_step p inner text state kept acts counted read is =
       let i = idle_sound s inner state read in
       let before = ended_text p.from p.since p.runs text acts in
@@ -304,7 +304,7 @@ module _ (plan : Plan) (s : Signature) (events : ℕ) where
         text_is = λ j. before j ++ said j;
       })
 
-  wait_step : (p : Performed) (run : RunRecord) (ask : AskRecord) (place : ℕ) (inner text : List ℕ) (state : List ValueTree) (kept : MemberRecord) → Acts p.from p.since p.runs (Ask run ask) text → place_behind p.from (length p.runs) ≡ Some place → place ≡ p.count → waiting_read s (length run.asks) inner ≡ Some state → finished p.from p.since p.count (p.runs ++ with_ask run ask ∷ []) state ≡ Last kept → HasActed p.from p.since p.count kept (text ++ line (codes "now waiting ask " ++ inner))
+  wait_step : (p : Performed) (run : RunRecord) (ask : AskRecord) (place : ℕ) (inner text : List ℕ) (state : List ValueTree) (kept : MemberRecord) → Acts p.from p.since p.runs (Ask run ask) text → place_behind p.from (length p.runs) ≡ Some place → place ≡ p.count → waiting_read s (length run.asks) inner ≡ Some state → finish_record p.from p.since p.count (p.runs ++ with_ask run ask ∷ []) state ≡ Last kept → HasActed p.from p.since p.count kept (text ++ line (codes "now waiting ask " ++ inner))
   wait_step p run ask place inner text state kept acts at counted read is =
       let w = waiting_sound s (length run.asks) inner state read in
       let here = place_is p.from (length p.runs) place at in
@@ -377,8 +377,8 @@ module _ (plan : Plan) (s : Signature) (events : ℕ) where
       idle : from_some (behind_prefix (codes "now idle") row) (idles s p) ≡ Some after → Follows p after (text ++ line row)
       idle read =
           let opened = from_is (behind_prefix (codes "now idle") row) (idles s p) after read in
-          let test = only_is (nat_eq (count_after p.from (length p.runs)) p.count) (option_map (finished p.from p.since p.count p.runs) (idle_read s opened.0)) after opened.2 in
-          let made = map_is (finished p.from p.since p.count p.runs) (idle_read s opened.0) after test.1 in
+          let test = only_is (nat_eq (count_after p.from (length p.runs)) p.count) (option_map (finish_record p.from p.since p.count p.runs) (idle_read s opened.0)) after opened.2 in
+          let made = map_is (finish_record p.from p.since p.count p.runs) (idle_read s opened.0) after test.1 in
           let step = idle_step p opened.0 text made.0 (record { phase = joiner.Active p.from; from = p.from; active_at = p.since; count = p.count; runs = p.runs; state = made.0 }) acts (eqb-true (count_after p.from (length p.runs)) p.count test.0) made.1 refl in
           subst (λ a. Follows p a (text ++ line row)) made.2 (subst (HasActed p.from p.since p.count (record { phase = joiner.Active p.from; from = p.from; active_at = p.since; count = p.count; runs = p.runs; state = made.0 })) (row_is (codes "now idle") row opened.0 text opened.1) step)
 
@@ -419,9 +419,9 @@ module _ (plan : Plan) (s : Signature) (events : ℕ) where
       waiting : from_some (behind_prefix (codes "now waiting ask ") row) (waits s p run ask) ≡ Some after → Follows p after (text ++ line row)
       waiting read =
           let opened = from_is (behind_prefix (codes "now waiting ask ") row) (waits s p run ask) after read in
-          let at = from_is (place_behind p.from (length p.runs)) (λ place. only_if (nat_eq place p.count) (option_map (finished p.from p.since p.count (p.runs ++ with_ask run ask ∷ [])) (waiting_read s (length run.asks) opened.0))) after opened.2 in
-          let test = only_is (nat_eq at.0 p.count) (option_map (finished p.from p.since p.count (p.runs ++ with_ask run ask ∷ [])) (waiting_read s (length run.asks) opened.0)) after at.2 in
-          let made = map_is (finished p.from p.since p.count (p.runs ++ with_ask run ask ∷ [])) (waiting_read s (length run.asks) opened.0) after test.1 in
+          let at = from_is (place_behind p.from (length p.runs)) (λ place. only_if (nat_eq place p.count) (option_map (finish_record p.from p.since p.count (p.runs ++ with_ask run ask ∷ [])) (waiting_read s (length run.asks) opened.0))) after opened.2 in
+          let test = only_is (nat_eq at.0 p.count) (option_map (finish_record p.from p.since p.count (p.runs ++ with_ask run ask ∷ [])) (waiting_read s (length run.asks) opened.0)) after at.2 in
+          let made = map_is (finish_record p.from p.since p.count (p.runs ++ with_ask run ask ∷ [])) (waiting_read s (length run.asks) opened.0) after test.1 in
           let step = wait_step p run ask at.0 opened.0 text made.0 (record { phase = joiner.Active p.from; from = p.from; active_at = p.since; count = p.count; runs = p.runs ++ with_ask run ask ∷ []; state = made.0 }) acts at.1 (eqb-true at.0 p.count test.0) made.1 refl in
           subst (λ a. Follows p a (text ++ line row)) made.2 (subst (HasActed p.from p.since p.count (record { phase = joiner.Active p.from; from = p.from; active_at = p.since; count = p.count; runs = p.runs ++ with_ask run ask ∷ []; state = made.0 })) (row_is (codes "now waiting ask ") row opened.0 text opened.1) step)
 

@@ -25,7 +25,7 @@ use Rattle.circus_audit.specs.declared.stage.Stage.{Stage}
 use Rattle.circus_audit.specs.declared.stage.Stage.TheVariants.{Events, Runs, Watching, Done}
 use Rattle.circus_audit.specs.Seen.Answers.{from_some}
 use Rattle.circus_audit.specs.Seen.Breaking.{onto_line, all_lines}
-use Rattle.circus_audit.specs.Seen.Names.{named, name_at}
+use Rattle.circus_audit.specs.Seen.Names.{number_of_name, name_at}
 use Rattle.circus_audit.specs.Seen.Differing.{event_of, event_apart}
 use Rattle.circus_audit.specs.Seen.Read.{IsRead}
 use Rattle.circus_audit.specs.declared.fault.RecordFault.{RecordFault}
@@ -166,8 +166,8 @@ module _ (plan : Plan) (own : ℕ) where
 
 own_sound : (plan : Plan) (row : List ℕ) (own : ℕ) → own_read plan row ≡ Some own → (row ≡ codes "circus node 1 " ++ name_at (node_names plan) own) × (own < length (node_names plan))
 own_sound plan row own is =
-    let w = whole_some (behind (behind_prefix (codes "circus node 1 ") row) (named (node_names plan))) own is in
-    let x = behind_some (behind_prefix (codes "circus node 1 ") row) (named (node_names plan)) (own, w.0) w.1 in
+    let w = whole_some (behind (behind_prefix (codes "circus node 1 ") row) (number_of_name (node_names plan))) own is in
+    let x = behind_some (behind_prefix (codes "circus node 1 ") row) (number_of_name (node_names plan)) (own, w.0) w.1 in
     let n = named_sound (node_names plan) x.0 own w.0 x.2 in
     let name = name_at (node_names plan) own in
     (passed_stands (codes "circus node 1 ") row x.0 x.1 ∙ ap (λ t. codes "circus node 1 " ++ t) (n.0 ∙ ap (λ t. name ++ t) w.2 ∙ append-nil name), n.1)

@@ -17,7 +17,7 @@ use Rattle.circus_value_text.proofs.Marks.{pair_is, and_then_some}
 use Rattle.circus_value_text.proofs.WordsInverse.{asks_sound}
 use Rattle.circus_audit.specs.declared.member_line.Entered.{Entered}
 use Rattle.circus_audit.specs.declared.member_line.Performs.{Performs}
-use Rattle.circus_audit.specs.Seen.Names.{named, name_at}
+use Rattle.circus_audit.specs.Seen.Names.{number_of_name, name_at}
 use Rattle.circus_audit.specs.Seen.Values.{values_behind, by_shape}
 use Rattle.circus_audit.specs.Seen.Lines.{numbered_step, name_behind, word_behind, clock_behind, root_read, entered_read, arguments_read, performs_read}
 use Rattle.circus_audit.proofs.Sounding.{Sounds, behind_sound, numbered_sound, word_sound, clock_behind_sound}
@@ -30,7 +30,7 @@ by_shape_some None f a is = cc
 
 -- a module behind a mark
 pub name_behind_sound : (mark : List ℕ) (names : List (List ℕ)) → Sounds (name_behind mark names) (λ n. mark ++ name_at names n) (λ n. n < length names)
-name_behind_sound mark names = behind_sound mark (named names) (name_at names) (λ n. n < length names) (named_sound names)
+name_behind_sound mark names = behind_sound mark (number_of_name names) (name_at names) (λ n. n < length names) (named_sound names)
 
 root_sound : (modules : List (List ℕ)) (d : Deployment) → Sounds (root_read modules d) (λ n. codes " path " ++ name_at modules n) (λ n. (n < length modules) × (is_root d n ≡ true))
 root_sound modules d text n rest is =

@@ -8,7 +8,7 @@ use Rattle.circus_record.specs.MemberText.{answered_line, ask_lines, asks_lines,
 use Rattle.circus_record.specs.declared.record.AskRecord.{AskRecord}
 use Rattle.circus_record.specs.declared.record.RunRecord.{RunRecord}
 use Rattle.circus_audit.specs.declared.member_line.After.{After}
-use Rattle.circus_audit.specs.Seen.Lines.{answered, run_ended}
+use Rattle.circus_audit.specs.Seen.Lines.{answer_ask, run_ended}
 use Rattle.circus_audit.specs.Seen.Performing.{with_ask}
 
 pub runs_more : (names : Names) (from : ℕ) (runs : List RunRecord) (run : RunRecord) → runs_lines names from (runs ++ run ∷ []) ≡ runs_lines names from runs ++ run_lines names (from + length runs) run
@@ -68,9 +68,9 @@ asked_text_more names place run ask none no_reply =
     with_ask_text names place run ask none ∙ ap (λ x. run_lines names place run ++ x) (open_text names (length run.asks) ask no_reply)
 
 -- with the reply to the last ask
-pub replied_text_more : (names : Names) (place : ℕ) (run : RunRecord) (ask : AskRecord) (after : After) (reply : Outcome) → run.outcome ≡ None → ask.reply ≡ None → run_lines names place (with_ask run (answered ask after reply)) ≡ run_lines names place (with_ask run ask) ++ reply_line (length run.asks) (Some after.step) after.clock reply
+pub replied_text_more : (names : Names) (place : ℕ) (run : RunRecord) (ask : AskRecord) (after : After) (reply : Outcome) → run.outcome ≡ None → ask.reply ≡ None → run_lines names place (with_ask run (answer_ask ask after reply)) ≡ run_lines names place (with_ask run ask) ++ reply_line (length run.asks) (Some after.step) after.clock reply
 replied_text_more names place run ask after reply none no_reply =
-    with_ask_text names place run (answered ask after reply) none
+    with_ask_text names place run (answer_ask ask after reply) none
     ∙ sym (append_assoc (run_lines names place run) (made_line names (length run.asks) ask) (reply_line (length run.asks) (Some after.step) after.clock reply))
     ∙ ap (λ x. x ++ reply_line (length run.asks) (Some after.step) after.clock reply) (sym (asked_text_more names place run ask none no_reply))
 

@@ -238,7 +238,7 @@ fn ask_made(asked: Asked, procedure: u16, arguments: Values, state: State) -> As
 }
 
 fn answer_ask(ask: AskRecord, after: After, reply: Outcome) -> AskRecord
-    ensures { result ≡ lines.answered ask after reply }
+    ensures { result ≡ lines.answer_ask ask after reply }
 {
     let mut answered = ask;
     answered.reply = Some(reply);

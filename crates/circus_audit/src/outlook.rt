@@ -400,7 +400,7 @@ impl Outlook {
     ) -> Result<Self, NoMemory>
         requires { length reader.nodes.now ≤ 2 ^ 16 }
         ensures { IfOk result (λ on. on
-            ≡ outlook.followed (map host_name reader.entry.nodes.now)
+            ≡ outlook.follow_line (map host_name reader.entry.nodes.now)
             reader.entry.modules reader.entry.own hosted.now stage.now line self) }
     {
         if self.lost.is_some() {

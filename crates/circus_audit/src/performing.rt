@@ -47,7 +47,7 @@ fn count_behind(from: u32, runs: usize) -> u32
 
 // The record of a member, of which no line is left.
 fn finish(from: u32, since: u64, count: u32, runs: RunRecords, state: State) -> After
-    ensures { result ≡ performing.finished from since count runs state }
+    ensures { result ≡ performing.finish_record from since count runs state }
 {
     After::Last(MemberRecord {
         phase: Joiner::Active(from),

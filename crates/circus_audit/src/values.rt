@@ -225,7 +225,7 @@ pub(crate) fn imported_procedure(
     callee: u16,
     number: u16,
 ) -> Option<&ProcedureShape>
-    ensures { option_copied result ≡ values.imported imports.now callee number }
+    ensures { option_copied result ≡ values.procedure_of_import imports.now callee number }
 {
     procedure_numbered(&import_of(imports, callee)?.procedures, number)
 }

@@ -57,7 +57,7 @@ fn module_named(modules: &[Name], name: &[u8]) -> Option<usize>
 pub(crate) fn read_node(text: &[u8], at: usize, nodes: &[Host]) -> Result<(u16, usize), Unread>
     requires at { at ≤ length text.now }
     requires nodes { length nodes.now ≤ 2 ^ 16 }
-    ensures { GivesAt text.now at result (names.named (map host_name nodes.now)) }
+    ensures { GivesAt text.now at result (names.number_of_name (map host_name nodes.now)) }
 {
     let rest = rest_at(text, at);
     let len = name_length(rest);
@@ -78,7 +78,7 @@ pub(crate) fn read_other(
     requires nodes { length nodes.now ≤ 2 ^ 16 }
     ensures { Gives (λ n.
         n) text.now result
-        (names.other own (names.named (map host_name nodes.now) (drop at text.now))) }
+        (names.other own (names.number_of_name (map host_name nodes.now) (drop at text.now))) }
 {
     let (node, next) = read_node(text, at, nodes)?;
     if node == own {
@@ -92,7 +92,7 @@ pub(crate) fn read_other(
 pub(crate) fn read_module(text: &[u8], at: usize, modules: &[Name]) -> Result<(u16, usize), Unread>
     requires at { at ≤ length text.now }
     requires modules { length modules.now ≤ 2 ^ 16 }
-    ensures { GivesAt text.now at result (names.named modules.now) }
+    ensures { GivesAt text.now at result (names.number_of_name modules.now) }
 {
     let rest = rest_at(text, at);
     let len = name_length(rest);

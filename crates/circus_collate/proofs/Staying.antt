@@ -10,7 +10,7 @@ use Rattle.circus_collate.specs.declared.giving.Said.{Said}
 use Rattle.circus_collate.specs.declared.kind.Kind.{Kind}
 use Rattle.circus_collate.specs.declared.kind.Kind.TheVariants as K
 use Rattle.circus_collate.specs.declared.collating.Collated.TheVariants.{Answer, Differ}
-use Rattle.circus_collate.specs.Giving.{first_place, passes_at, counts, votes, have_equal, has_majority, has_number, majority, reached, at_least, first, first_difference, given}
+use Rattle.circus_collate.specs.Giving.{first_place, passes_at, counts, votes, have_equal, has_majority, has_number, majority, reached, at_least, first, first_difference, place_of_value}
 use Rattle.circus_collate.specs.Collating.{answer, dispute, collate}
 use Rattle.circus_collate.proofs.Places.{IsFirst, first_place-only, first_place-nothing, both_pass}
 use Rattle.circus_collate.proofs.Later.{parts_of, is_false, passes_at-append, counts-append, have_equal-append, votes-append, votes-congr, votes-apart}
@@ -47,7 +47,7 @@ module _ {V : Type 0} (eq : V → V → Bool) where
       → collate eq nodes down said kind ≡ Differ one other → ⊥
   equal_values nodes down said kind one other same e =
       let none = no_dispute nodes down said kind (no_difference said same) in
-      never_differs (given eq (λ _. nodes) said kind down) one other (ap (answer (given eq (λ _. nodes) said kind down)) (sym none) ∙ e)
+      never_differs (place_of_value eq (λ _. nodes) said kind down) one other (ap (answer (place_of_value eq (λ _. nodes) said kind down)) (sym none) ∙ e)
 
   -- ---- where more is said
 
@@ -143,7 +143,7 @@ module _ {V : Type 0} (eq : V → V → Bool) where
       ap (λ o. option_and_then (λ last. first_place (λ k. counts expected all k && have_equal eq all last k) (length all)) o) last_stays ∙ place_stays
 
   given_stays : IsEquivalence eq → (nodes down : List ℕ) (said later : List (Said V)) (kind : Kind) (place : ℕ) → kind ≢ K.Unanimous
-      → given eq (λ _. nodes) said kind down ≡ Some place → given eq (λ _. nodes) (said ++ later) kind down ≡ Some place
+      → place_of_value eq (λ _. nodes) said kind down ≡ Some place → place_of_value eq (λ _. nodes) (said ++ later) kind down ≡ Some place
   given_stays laws nodes down said later K.First place other e = first_stays said later place e
   given_stays laws nodes down said later K.Watchdog place other e = first_stays said later place e
   given_stays laws nodes down said later K.Unanimous place other e = absurd (other refl)
@@ -159,4 +159,4 @@ module _ {V : Type 0} (eq : V → V → Bool) where
       → collate eq nodes down said kind ≡ Answer place → collate eq nodes down (said ++ later) kind ≡ Answer place
   given_values laws nodes down said later kind place other e =
       ap (λ o. answer o (dispute eq nodes down (said ++ later) kind))
-      (given_stays laws nodes down said later kind place other (given_of (given eq (λ _. nodes) said kind down) (dispute eq nodes down said kind) place e))
+      (given_stays laws nodes down said later kind place other (given_of (place_of_value eq (λ _. nodes) said kind down) (dispute eq nodes down said kind) place e))

@@ -5,7 +5,7 @@ use Rattle.std.proofs.lemmas.Bool.{false≢true}
 use Rattle.circus_collate.specs.declared.giving.Said.{Said}
 use Rattle.circus_collate.specs.declared.kind.Kind.{Kind}
 use Rattle.circus_collate.specs.declared.kind.Kind.TheVariants as K
-use Rattle.circus_collate.specs.Giving.{first_place, passes_at, all_have_said, counts, have_equal, has_majority, has_number, majority, reached, at_least, first, first_difference, unanimous, given}
+use Rattle.circus_collate.specs.Giving.{first_place, passes_at, all_have_said, counts, have_equal, has_majority, has_number, majority, reached, at_least, first, first_difference, unanimous, place_of_value}
 use Rattle.circus_collate.proofs.Places.{IsFirst, first_place-is}
 use Rattle.circus_collate.proofs.Later.{parts_of}
 
@@ -65,7 +65,7 @@ module _ {V : Type 0} where
           first_equal = first_place-is (λ k. counts expected said k && have_equal eq said last k) (length said) place e';
         }
 
-    pub given_said : (kind : Kind) (down : List ℕ) (place : ℕ) → given eq expected said kind down ≡ Some place → place < length said
+    pub given_said : (kind : Kind) (down : List ℕ) (place : ℕ) → place_of_value eq expected said kind down ≡ Some place → place < length said
     given_said K.First down place e = said_first said place e
     given_said K.Watchdog down place e = said_first said place e
     given_said K.Unanimous down place e = said_unanimous down place e

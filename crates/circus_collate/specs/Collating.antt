@@ -5,7 +5,7 @@ use Rattle.circus_collate.specs.declared.collating.Collated.{Collated}
 use Rattle.circus_collate.specs.declared.collating.Collated.TheVariants.{Waiting, Answer, Differ}
 use Rattle.circus_collate.specs.declared.kind.Kind.{Kind}
 use Rattle.circus_collate.specs.declared.kind.Kind.TheVariants.{First, Majority, Unanimous, AtLeast, Watchdog}
-use Rattle.circus_collate.specs.Giving.{first_difference, all_have_said, given}
+use Rattle.circus_collate.specs.Giving.{first_difference, all_have_said, place_of_value}
 
 -- a value is given; or two values differ, and none will be given; or more has to come
 abbrev pub answer : Option ℕ → Option ℕ → Collated
@@ -23,4 +23,4 @@ module _ {V : Type 0} (eq : V → V → Bool) (nodes down : List ℕ) (said : Li
   dispute (AtLeast number) = if all_have_said said down nodes then first_difference eq said else None
 
   abbrev pub collate : Kind → Collated
-  collate kind = answer (given eq (λ _. nodes) said kind down) (dispute kind)
+  collate kind = answer (place_of_value eq (λ _. nodes) said kind down) (dispute kind)

@@ -81,9 +81,9 @@ module _ {V : Type 0} where
       at_least number = option_and_then (λ last. first_place (λ place. counts expected said place && have_equal said last place) (length said)) (reached number)
 
       -- the place of the value that a collator gives, where it gives one
-      abbrev pub given : Kind → List ℕ → Option ℕ
-      given First down = first said
-      given Watchdog down = first said
-      given Unanimous down = unanimous down
-      given Majority down = majority
-      given (AtLeast number) down = at_least number
+      abbrev pub place_of_value : Kind → List ℕ → Option ℕ
+      place_of_value First down = first said
+      place_of_value Watchdog down = first said
+      place_of_value Unanimous down = unanimous down
+      place_of_value Majority down = majority
+      place_of_value (AtLeast number) down = at_least number

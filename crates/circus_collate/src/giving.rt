@@ -27,7 +27,7 @@ pub fn place_given<V: Eq, E: Expectation<V>>(
     down: &Nodes,
     said: &[Said<V>],
 ) -> Option<usize>
-    ensures { result ≡ giving.given V.eq (E.nodes expectation.now) said.now kind down.now }
+    ensures { result ≡ giving.place_of_value V.eq (E.nodes expectation.now) said.now kind down.now }
 {
     match kind {
         Kind::First | Kind::Watchdog => first_place(said),

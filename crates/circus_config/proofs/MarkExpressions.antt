@@ -12,7 +12,7 @@ use Rattle.circus_expression.specs.declared.starts.PrimaryStart.{PrimaryStart}
 use Rattle.circus_expression.specs.declared.starts.PrimaryStart.TheVariants as begins
 use Rattle.circus_expression.specs.Operators.{operators, comparisons, operator_in, is_operator}
 use Rattle.circus_expression.specs.Written.{Written, negation, minus, number, text, truth, parentheses, length_of, no_links, link, no_suffixes, field, subscript}
-use Rattle.circus_expression.specs.ExpressionReading.{filler, first_operator, joint, joins, Openers, expect_where, is_bracket, is_parenthesis, is_hash, is_suffix, further_suffixes, suffixes_with, any_suffixes, place_with, labelled, listing, built_with, goes_on, builds, name_with_tail, second, built_of_both, follows, second_with, Following, by_hash, by_dot, by_neither, following_of, behind_name, named_with, start_of_primary, primary_by, is_minus, factor_with, links_with, chain_of, chain_with, sum_with, compared, arm_named, alone, with_relation, Relating, comparing, naming, ending, relating_of, compares, related_by, is_not, negated_with, operand_with, expression_with, in_parentheses, in_brackets, openers_within, none_left, openers, chained, list, read_place}
+use Rattle.circus_expression.specs.ExpressionReading.{filler, first_operator, joint, joins, Openers, expect_where, is_bracket, is_parenthesis, is_hash, is_suffix, further_suffixes, suffixes_with, any_suffixes, place_with, labelled, listing, built_with, goes_on, builds, name_with_tail, second, built_of_both, follows, second_with, Following, by_hash, by_dot, by_neither, following_of, behind_name, named_with, start_of_primary, primary_by, is_minus, factor_with, links_with, chain_of, chain_with, sum_with, compared, arm_named, alone, with_relation, Relating, comparing, naming, ending, relating_of, compares, related_by, is_not, negated_with, operand_with, expression_with, in_parentheses, in_brackets, openers_within, none_left, openers, read_chain, list, read_place}
 use Rattle.circus_config.proofs.Marks.{Keeps, keeps_token, keeps_stopped, keeps_nothing, keeps_both, keeps_mapped, keeps_cased, keeps_either, keeps_optional, keeps_fixed, keeps_fixed_at, keeps_name, keeps_number, keeps_quoted, keeps_behind, keeps_list}
 
 pub keeps_where : {A : Type 0} (test : Placed → Bool) (fill : ℕ → A) {p : Reader → A × Reader} → Keeps p → Keeps (expect_where test fill p)
@@ -147,8 +147,8 @@ unfolding openers
 keep_all zero = keep_none
 keep_all (suc n) = keeps_within (openers n) (keep_all n)
 
-pub keeps_chained : (n : ℕ) (c : Chain) → Keeps (chained n c)
-unfolding chained
+pub keeps_chained : (n : ℕ) (c : Chain) → Keeps (read_chain n c)
+unfolding read_chain
 keeps_chained n c = keeps_chain (openers n) (keep_all n) c (keeps_operand (openers n) (keep_all n) c)
 
 pub keeps_place : (n : ℕ) → Keeps (read_place n)

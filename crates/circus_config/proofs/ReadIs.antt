@@ -16,7 +16,7 @@ use Rattle.circus_syntax.specs.Spelling.{most_levels, IsEach, IsGrammatical}
 use Rattle.circus_syntax.proofs.Sound.{reader, ran_is}
 use Rattle.circus_syntax.proofs.Viewed.{text_tokens}
 use Rattle.circus_expression.specs.Ending.{Are}
-use Rattle.circus_expression.specs.Standing.{shown}
+use Rattle.circus_expression.specs.Standing.{show_as}
 use Rattle.circus_lang.specs.ModuleStanding.{module_stands_for}
 use Rattle.circus_lang.specs.WrittenModule.{WrittenModule, IsModule}
 use Rattle.circus_troupe.specs.DeploymentSpelling.{IsDeploymentText}
@@ -105,7 +105,7 @@ pub record IsGood (tree : ProgramTree) (interfaces : List Interface) : Type 0 wh
   pub written : IsDeploymentText tree.deployment
 
 module _ (text : List ℕ) (found : List Token) (tree : ProgramTree) (s : Reader) (each : All (IsTokenIn text) found)
-    (is : shown program_stands_for (program most_levels (open_at (placed_tokens text found) (length text))) ≡ (tree, s)) where
+    (is : show_as program_stands_for (program most_levels (open_at (placed_tokens text found) (length text))) ≡ (tree, s)) where
   written : WrittenProgram
   written = (program most_levels (open_at (placed_tokens text found) (length text))).0
 

@@ -166,8 +166,8 @@ arrived_after e s = if takes e s && not (is_acknowledgement s) then arrived_of_t
 abbrev pub is_waiting : Exchange → Bool
 is_waiting e = not (len e.calls.messages == 0)
 
-unfoldable pub ticked : Exchange → Exchange
-ticked e = record e { ticks = if is_waiting e && nat_lt e.ticks patience then e.ticks + 1 else e.ticks }
+unfoldable pub count_tick : Exchange → Exchange
+count_tick e = record e { ticks = if is_waiting e && nat_lt e.ticks patience then e.ticks + 1 else e.ticks }
 
 unfoldable pub is_suspect : Exchange → Bool
 is_suspect e = is_waiting e && (e.ticks + 1 == patience)

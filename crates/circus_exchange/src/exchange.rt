@@ -61,7 +61,7 @@ impl Drop for Exchange {
 }
 
 impl Exchange {
-    ghost use Rattle.circus_exchange.specs.Exchange.{start, send_call, datagrams_of_call, send_return, datagrams_of_return, awaits_return, was_sent, takes, lets_go, let_go, datagrams_let_go, in_flight_after, call_reached, return_reached, total_of, end_call, return_added, after_taken, after, datagrams_of_taken, datagrams_after, arrived_of_taken, arrived_after, ticked, is_suspect, datagrams_of_tick, stop_exchange, sends_at_once};
+    ghost use Rattle.circus_exchange.specs.Exchange.{start, send_call, datagrams_of_call, send_return, datagrams_of_return, awaits_return, was_sent, takes, lets_go, let_go, datagrams_let_go, in_flight_after, call_reached, return_reached, total_of, end_call, return_added, after_taken, after, datagrams_of_taken, datagrams_after, arrived_of_taken, arrived_after, count_tick, is_suspect, datagrams_of_tick, stop_exchange, sends_at_once};
 
     /// An end without calls and returns, whose first call gets this number. It grows with this allocator, and sends in this
     /// format, which is 1 or 2.
@@ -484,11 +484,11 @@ impl Exchange {
     }
 
     /// What a tick does. After `NoMemory` nothing has changed.
-    #[tactic(auto, unfolding(crate::specs::Exchange::ticked, crate::specs::Exchange::is_suspect, crate::specs::Exchange::datagrams_of_tick))]
+    #[tactic(auto, unfolding(crate::specs::Exchange::count_tick, crate::specs::Exchange::is_suspect, crate::specs::Exchange::datagrams_of_tick))]
     pub fn tick(&mut self, alloc: Global) -> Result<Ticked, NoMemory>
         ensures datagrams { IfOk result (λ t. t.datagrams ≡ datagrams_of_tick self.old) }
         ensures suspect { IfOk result (λ t. t.suspect ≡ is_suspect self.old) }
-        ensures state { OnOk result (self.new ≡ ticked self.old) }
+        ensures state { OnOk result (self.new ≡ count_tick self.old) }
         ensures err { OnErr result (self.new ≡ self.old) }
     {
         let mut datagrams = Datagrams::new(alloc);
@@ -506,10 +506,10 @@ impl Exchange {
     }
 
     // Counts a tick, and says whether it is the one at which the other end is suspected.
-    #[tactic(auto, unfolding(crate::specs::Exchange::ticked, crate::specs::Exchange::is_suspect))]
+    #[tactic(auto, unfolding(crate::specs::Exchange::count_tick, crate::specs::Exchange::is_suspect))]
     fn count_tick(&mut self) -> bool
         ensures suspect { result ≡ is_suspect self.old }
-        ensures state { self.new ≡ ticked self.old }
+        ensures state { self.new ≡ count_tick self.old }
     {
         if self.calls.is_empty() || self.ticks >= PATIENCE {
             return false;

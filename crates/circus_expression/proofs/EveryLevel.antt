@@ -13,15 +13,15 @@ use Rattle.circus_expression.specs.declared.operator.Operator.TheVariants as op
 use Rattle.circus_expression.specs.declared.operator.Chain.TheVariants as of
 use Rattle.circus_expression.specs.Operators.{operators, is_operator, comparisons}
 use Rattle.circus_expression.specs.Written.{spelling, spelling_place, spelling_list, IsWritten, IsPlace}
-use Rattle.circus_expression.specs.ExpressionReading.{chained, read_place, list, is_bracket, any_suffixes, openers}
+use Rattle.circus_expression.specs.ExpressionReading.{read_chain, read_place, list, is_bracket, any_suffixes, openers}
 use Rattle.circus_expression.specs.Ending.{Ends}
 use Rattle.circus_expression.proofs.Follows.{Stays, grip_of}
 use Rattle.circus_expression.proofs.Productions.{AreAll, lawful_expression, lawful_place}
 use Rattle.circus_expression.proofs.Openers.{lawful_openers, sound_openers, sound_any_suffixes}
 use Rattle.circus_expression.proofs.Ends.{AllLawful}
 
-pub expressions_lawful : AllLawful (λ n. chained n of.Expression) spelling IsWritten (Stays 0)
-unfolding chained
+pub expressions_lawful : AllLawful (λ n. read_chain n of.Expression) spelling IsWritten (Stays 0)
+unfolding read_chain
 expressions_lawful n m above = lawful_expression n (lawful_openers n m above)
 
 pub places_lawful : AllLawful read_place spelling_place IsPlace (Stays 7)

@@ -292,8 +292,8 @@ openers (suc levels) = openers_within (openers levels)
 
 -- The productions where so many levels are left.
 
-unfoldable pub chained : ℕ → Chain → Reader → Written × Reader
-chained levels c = chain_with c (operand_with (openers levels) c) (openers levels)
+unfoldable pub read_chain : ℕ → Chain → Reader → Written × Reader
+read_chain levels c = chain_with c (operand_with (openers levels) c) (openers levels)
 
 unfoldable pub operand : ℕ → Chain → Reader → Written × Reader
 operand levels c = operand_with (openers levels) c

@@ -67,5 +67,5 @@ related_tree e (compared o w) = join_with o e (stands_for w)
 related_tree e (arm_named n) = expression (place_of_tree e) (tree.is_arm e n)
 
 -- what is read, as it stands for something else
-abbrev pub shown : {A B : Type 0} → (A → B) → A × Reader → B × Reader
-shown f x = (f x.0, x.1)
+abbrev pub show_as : {A B : Type 0} → (A → B) → A × Reader → B × Reader
+show_as f x = (f x.0, x.1)

@@ -125,8 +125,8 @@ expression = 0
 abbrev pub conjunct : ℕ
 conjunct = 1
 
-abbrev pub negated : ℕ
-negated = 2
+abbrev pub negation_level : ℕ
+negation_level = 2
 
 abbrev pub relation : ℕ
 relation = 3
@@ -152,13 +152,13 @@ production_of_chain of.Term = term
 -- the production of a chain's operands
 abbrev pub operand_of : Chain → ℕ
 operand_of of.Expression = conjunct
-operand_of of.Conjunct = negated
+operand_of of.Conjunct = negation_level
 operand_of of.Sum = term
 operand_of of.Term = factor
 
 abbrev pub production_of : Written → ℕ
 production_of (chain c w ls) = production_of_chain c
-production_of (negation at w) = negated
+production_of (negation at w) = negation_level
 production_of (comparison a o b) = relation
 production_of (is_arm a n) = relation
 production_of (minus at w) = factor
@@ -173,7 +173,7 @@ abbrev mutual
   pub IsWritten : Written → Type 0
   IsWritten (chain c w no_links) = ⊥
   IsWritten (chain c w (link o v ls)) = (operand_of c ≤ production_of w) × IsWritten w × AreLinks c (link o v ls)
-  IsWritten (negation at w) = (negated ≤ production_of w) × IsWritten w
+  IsWritten (negation at w) = (negation_level ≤ production_of w) × IsWritten w
   IsWritten (comparison a o b) =
       (sum ≤ production_of a) × IsWritten a × Compares o × (sum ≤ production_of b) × IsWritten b
   IsWritten (is_arm a n) = (sum ≤ production_of a) × IsWritten a × IsName n

@@ -6,8 +6,8 @@ ghost use Rattle.circus_syntax.specs.Reader.{next, place, stop_reading, skipped_
 ghost use Rattle.circus_expression.specs.ExpressionOf.{tree_of, kind_tree, place_of};
 ghost use Rattle.circus_expression.specs.ExpressionTree.{expression, binary, is_arm};
 ghost use Rattle.circus_expression.specs.Operators.{operators, next_operator};
-ghost use Rattle.circus_expression.specs.Standing.{shown, stands_for, lean_left, suffixes_stand_for, place_stands_for, type_place, join_with, related_tree};
-ghost use Rattle.circus_expression.specs.ExpressionReading.{filler, first_operator, chained, operand, links, further_links, no_further, minus_operand, relation, related_within, factor, primary, length_primary, required_argument, named_primary, argument, read_subscript, list, items_within, suffixes, any, further, built_behind, tail_behind_dot, read_place, construction, name_with_tail};
+ghost use Rattle.circus_expression.specs.Standing.{show_as, stands_for, lean_left, suffixes_stand_for, place_stands_for, type_place, join_with, related_tree};
+ghost use Rattle.circus_expression.specs.ExpressionReading.{filler, first_operator, read_chain, operand, links, further_links, no_further, minus_operand, relation, related_within, factor, primary, length_primary, required_argument, named_primary, argument, read_subscript, list, items_within, suffixes, any, further, built_behind, tail_behind_dot, read_place, construction, name_with_tail};
 
 use crate::seeing::{comparison, operator, primary_start, sees_suffix};
 use crate::{
@@ -21,7 +21,7 @@ use circus_value::NoMemory;
 /// many, and at the first other token with which no expression goes on (docs/LANGUAGE.md, "Expressions").
 pub fn expression_text(reader: &mut Reader<'_>, levels: u8) -> Result<Expression, NoMemory>
     ensures { IfOk result (λ read.
-        shown stands_for (chained levels Chain.Expression reader.old)
+        show_as stands_for (read_chain levels Chain.Expression reader.old)
         ≡ (tree_of read, reader.new)) }
 {
     chain(reader, Chain::Expression, levels)
@@ -30,7 +30,7 @@ pub fn expression_text(reader: &mut Reader<'_>, levels: u8) -> Result<Expression
 #[cycle(reading)]
 fn chain(reader: &mut Reader<'_>, of: Chain, levels: u8) -> Result<Expression, NoMemory>
     ensures { IfOk result (λ read.
-        shown stands_for (chained levels of reader.old) ≡ (tree_of read, reader.new)) }
+        show_as stands_for (read_chain levels of reader.old) ≡ (tree_of read, reader.new)) }
 {
     let left = operand(reader, of, levels)?;
     match operator(reader, of) {
@@ -50,7 +50,7 @@ fn link(
 ) -> Result<Expression, NoMemory>
     requires { next_operator (operators of) (next reader.old) ≡ Some joint }
     ensures { IfOk result (λ read.
-        shown (lean_left (tree_of left)) (links levels of reader.old)
+        show_as (lean_left (tree_of left)) (links levels of reader.old)
         ≡ (tree_of read, reader.new)) }
 {
     let at = left.at;
@@ -75,7 +75,7 @@ fn further_link(
 ) -> Result<Expression, NoMemory>
     requires { next_operator (operators of) (next reader.old) ≡ Some joint }
     ensures { IfOk result (λ read.
-        shown (lean_left (tree_of left)) (further_links levels of reader.old)
+        show_as (lean_left (tree_of left)) (further_links levels of reader.old)
         ≡ (tree_of read, reader.new)) }
 {
     if levels == 0 {
@@ -87,7 +87,7 @@ fn further_link(
 #[cycle(reading)]
 fn operand(reader: &mut Reader<'_>, of: Chain, levels: u8) -> Result<Expression, NoMemory>
     ensures { IfOk result (λ read.
-        shown stands_for (operand levels of reader.old) ≡ (tree_of read, reader.new)) }
+        show_as stands_for (operand levels of reader.old) ≡ (tree_of read, reader.new)) }
 {
     match of {
         Chain::Expression => chain(reader, Chain::Conjunct, levels),
@@ -100,7 +100,7 @@ fn operand(reader: &mut Reader<'_>, of: Chain, levels: u8) -> Result<Expression,
 #[cycle(reading)]
 fn minus_operand(reader: &mut Reader<'_>, levels: u8) -> Result<Expression, NoMemory>
     ensures { IfOk result (λ read.
-        shown stands_for (minus_operand levels reader.old) ≡ (tree_of read, reader.new)) }
+        show_as stands_for (minus_operand levels reader.old) ≡ (tree_of read, reader.new)) }
 {
     if !reader.sees_word(b"NOT") {
         return relation(reader, levels);
@@ -121,7 +121,7 @@ fn minus_operand(reader: &mut Reader<'_>, levels: u8) -> Result<Expression, NoMe
 #[cycle(reading)]
 fn relation(reader: &mut Reader<'_>, levels: u8) -> Result<Expression, NoMemory>
     ensures { IfOk result (λ read.
-        shown stands_for (relation levels reader.old) ≡ (tree_of read, reader.new)) }
+        show_as stands_for (relation levels reader.old) ≡ (tree_of read, reader.new)) }
 {
     let left = chain(reader, Chain::Sum, levels)?;
     rest_of_relation(reader, left, levels)
@@ -135,7 +135,7 @@ fn rest_of_relation(
     levels: u8,
 ) -> Result<Expression, NoMemory>
     ensures { IfOk result (λ read.
-        shown (related_tree (tree_of left)) (related_within levels reader.old)
+        show_as (related_tree (tree_of left)) (related_within levels reader.old)
         ≡ (tree_of read, reader.new)) }
 {
     if reader.sees_word(b"IS") {
@@ -156,8 +156,8 @@ fn rest_of_comparison(
     levels: u8,
 ) -> Result<Expression, NoMemory>
     ensures { IfOk result (λ read.
-        shown (λ w. join_with joint (tree_of left) (stands_for w))
-        (chained levels Chain.Sum (skipped_by reader.old.stop reader.old.rest reader.old.end))
+        show_as (λ w. join_with joint (tree_of left) (stands_for w))
+        (read_chain levels Chain.Sum (skipped_by reader.old.stop reader.old.rest reader.old.end))
         ≡ (tree_of read, reader.new)) }
 {
     let at = left.at;
@@ -170,7 +170,7 @@ fn rest_of_comparison(
 #[cycle(reading)]
 fn factor(reader: &mut Reader<'_>, levels: u8) -> Result<Expression, NoMemory>
     ensures { IfOk result (λ read.
-        shown stands_for (factor levels reader.old) ≡ (tree_of read, reader.new)) }
+        show_as stands_for (factor levels reader.old) ≡ (tree_of read, reader.new)) }
 {
     if !reader.sees_sign(b"-") {
         return primary(reader, levels);
@@ -191,7 +191,7 @@ fn factor(reader: &mut Reader<'_>, levels: u8) -> Result<Expression, NoMemory>
 #[cycle(reading)]
 fn primary(reader: &mut Reader<'_>, levels: u8) -> Result<Expression, NoMemory>
     ensures { IfOk result (λ read.
-        shown stands_for (primary levels reader.old) ≡ (tree_of read, reader.new)) }
+        show_as stands_for (primary levels reader.old) ≡ (tree_of read, reader.new)) }
 {
     let at = reader.place();
     let kind = primary_kind(reader, levels)?;
@@ -201,7 +201,7 @@ fn primary(reader: &mut Reader<'_>, levels: u8) -> Result<Expression, NoMemory>
 #[cycle(reading)]
 fn primary_kind(reader: &mut Reader<'_>, levels: u8) -> Result<ExpressionKind, NoMemory>
     ensures { IfOk result (λ kind.
-        shown stands_for (primary levels reader.old)
+        show_as stands_for (primary levels reader.old)
         ≡ (expression (place reader.old) (kind_tree kind), reader.new)) }
 {
     match primary_start(reader) {
@@ -224,7 +224,7 @@ fn primary_kind(reader: &mut Reader<'_>, levels: u8) -> Result<ExpressionKind, N
 #[cycle(reading)]
 fn length(reader: &mut Reader<'_>, levels: u8) -> Result<ExpressionKind, NoMemory>
     ensures { IfOk result (λ kind.
-        shown stands_for (length_primary levels reader.old)
+        show_as stands_for (length_primary levels reader.old)
         ≡ (expression (place reader.old) (kind_tree kind), reader.new)) }
 {
     if levels == 0 {
@@ -239,7 +239,7 @@ fn length(reader: &mut Reader<'_>, levels: u8) -> Result<ExpressionKind, NoMemor
 #[cycle(reading)]
 fn length_argument(reader: &mut Reader<'_>, levels: u8) -> Result<Expression, NoMemory>
     ensures { IfOk result (λ read.
-        shown stands_for (required_argument levels reader.old) ≡ (tree_of read, reader.new)) }
+        show_as stands_for (required_argument levels reader.old) ≡ (tree_of read, reader.new)) }
 {
     if reader.sees_sign(b"(") {
         group_in_parentheses(reader, levels)
@@ -252,7 +252,7 @@ fn length_argument(reader: &mut Reader<'_>, levels: u8) -> Result<Expression, No
 #[cycle(reading)]
 fn group_in_parentheses(reader: &mut Reader<'_>, levels: u8) -> Result<Expression, NoMemory>
     ensures { IfOk result (λ read.
-        shown stands_for (argument levels reader.old) ≡ (tree_of read, reader.new)) }
+        show_as stands_for (argument levels reader.old) ≡ (tree_of read, reader.new)) }
 {
     if levels == 0 {
         return stop(reader, StopCause::TooDeep);
@@ -266,7 +266,7 @@ fn group_in_parentheses(reader: &mut Reader<'_>, levels: u8) -> Result<Expressio
 #[cycle(reading)]
 fn kind_by_name(reader: &mut Reader<'_>, levels: u8) -> Result<ExpressionKind, NoMemory>
     ensures { IfOk result (λ kind.
-        shown stands_for (named_primary levels reader.old)
+        show_as stands_for (named_primary levels reader.old)
         ≡ (expression (place reader.old) (kind_tree kind), reader.new)) }
 {
     let name = reader.name()?;
@@ -288,7 +288,7 @@ fn kind_behind_dot(
     levels: u8,
 ) -> Result<ExpressionKind, NoMemory>
     ensures { IfOk result (λ kind.
-        shown (λ behind.
+        show_as (λ behind.
         stands_for (name_with_tail name behind)) (tail_behind_dot levels reader.old)
         ≡ (expression name.at (kind_tree kind), reader.new)) }
 {
@@ -315,7 +315,7 @@ fn kind_of_type(
     levels: u8,
 ) -> Result<ExpressionKind, NoMemory>
     ensures { IfOk result (λ kind.
-        shown (λ made. stands_for (construction of made)) (built_behind levels reader.old)
+        show_as (λ made. stands_for (construction of made)) (built_behind levels reader.old)
         ≡ (expression (type_place of) (kind_tree kind), reader.new)) }
 {
     reader.sign(b"#");
@@ -334,7 +334,7 @@ fn kind_of_type(
 /// Reads a place of at most so many levels, or stops as `expression_text` does.
 pub fn place_text(reader: &mut Reader<'_>, levels: u8) -> Result<PlaceText, NoMemory>
     ensures { IfOk result (λ read.
-        shown place_stands_for (read_place levels reader.old) ≡ (place_of read, reader.new)) }
+        show_as place_stands_for (read_place levels reader.old) ≡ (place_of read, reader.new)) }
 {
     let name = reader.name()?;
     let suffixes = any_suffixes(reader, levels)?;
@@ -344,7 +344,7 @@ pub fn place_text(reader: &mut Reader<'_>, levels: u8) -> Result<PlaceText, NoMe
 #[cycle(reading)]
 fn any_suffixes(reader: &mut Reader<'_>, levels: u8) -> Result<Suffixes, NoMemory>
     ensures { IfOk result (λ read.
-        shown suffixes_stand_for (any levels reader.old) ≡ (read, reader.new)) }
+        show_as suffixes_stand_for (any levels reader.old) ≡ (read, reader.new)) }
 {
     let mut suffixes = Suffixes::new(reader.alloc());
     if !sees_suffix(reader) {
@@ -358,7 +358,7 @@ fn any_suffixes(reader: &mut Reader<'_>, levels: u8) -> Result<Suffixes, NoMemor
 #[cycle(reading)]
 fn one_suffix(reader: &mut Reader<'_>, into: &mut Suffixes, levels: u8) -> Result<(), NoMemory>
     ensures { OnOk result
-        (shown (λ ss. into.old ++ suffixes_stand_for ss) (suffixes levels reader.old)
+        (show_as (λ ss. into.old ++ suffixes_stand_for ss) (suffixes levels reader.old)
         ≡ (into.new, reader.new)) }
 {
     if reader.sees_sign(b"[") {
@@ -378,7 +378,7 @@ fn further_suffixes(
     levels: u8,
 ) -> Result<(), NoMemory>
     ensures { OnOk result
-        (shown (λ ss. into.old ++ suffixes_stand_for ss) (further levels reader.old)
+        (show_as (λ ss. into.old ++ suffixes_stand_for ss) (further levels reader.old)
         ≡ (into.new, reader.new)) }
 {
     if !sees_suffix(reader) {
@@ -395,7 +395,7 @@ fn further_suffixes(
 #[cycle(reading)]
 fn subscript(reader: &mut Reader<'_>, levels: u8) -> Result<Expression, NoMemory>
     ensures { IfOk result (λ read.
-        shown stands_for (read_subscript levels reader.old) ≡ (tree_of read, reader.new)) }
+        show_as stands_for (read_subscript levels reader.old) ≡ (tree_of read, reader.new)) }
 {
     if levels == 0 {
         return stop(reader, StopCause::TooDeep);
@@ -410,7 +410,7 @@ fn subscript(reader: &mut Reader<'_>, levels: u8) -> Result<Expression, NoMemory
 #[cycle(reading)]
 pub fn list_text(reader: &mut Reader<'_>, levels: u8) -> Result<Expressions, NoMemory>
     ensures { IfOk result (λ read.
-        shown (map stands_for) (list levels reader.old) ≡ (read, reader.new)) }
+        show_as (map stands_for) (list levels reader.old) ≡ (read, reader.new)) }
 {
     if levels == 0 {
         reader.stop_here(StopCause::TooDeep);
@@ -425,7 +425,7 @@ pub fn list_text(reader: &mut Reader<'_>, levels: u8) -> Result<Expressions, NoM
 #[cycle(reading)]
 fn items(reader: &mut Reader<'_>, levels: u8) -> Result<Expressions, NoMemory>
     ensures { IfOk result (λ read.
-        shown (map stands_for) (items_within levels reader.old) ≡ (read, reader.new)) }
+        show_as (map stands_for) (items_within levels reader.old) ≡ (read, reader.new)) }
 {
     let mut items = Expressions::new(reader.alloc());
     if reader.sees_sign(b"]") {
@@ -460,7 +460,7 @@ fn join(
 // IS and the name of an arm.
 fn arm_test(reader: &mut Reader<'_>, left: Expression) -> Result<Expression, NoMemory>
     ensures { IfOk result (λ read.
-        shown (λ arm. expression left.at (is_arm (tree_of left) arm))
+        show_as (λ arm. expression left.at (is_arm (tree_of left) arm))
         (behind (word (codes "IS")) name reader.old) ≡ (tree_of read, reader.new)) }
 {
     let at = left.at;
@@ -476,7 +476,7 @@ fn arm_test(reader: &mut Reader<'_>, left: Expression) -> Result<Expression, NoM
 // Stops where a further operator of the chain would be a level too many.
 fn stop_linked(reader: &mut Reader<'_>, left: Expression, of: Chain) -> Result<Expression, NoMemory>
     ensures { IfOk result (λ read.
-        shown (lean_left (tree_of left)) (no_further of reader.old) ≡ (tree_of read, reader.new)) }
+        show_as (lean_left (tree_of left)) (no_further of reader.old) ≡ (tree_of read, reader.new)) }
 {
     let at = left.at;
     let left = Operand::new(reader.alloc(), left)?;
@@ -487,7 +487,7 @@ fn stop_linked(reader: &mut Reader<'_>, left: Expression, of: Chain) -> Result<E
 // Stops here, and fills in for an expression.
 fn stop(reader: &mut Reader<'_>, cause: StopCause) -> Result<Expression, NoMemory>
     ensures { IfOk result (λ made.
-        shown stands_for (stop_reading cause filler reader.old) ≡ (tree_of made, reader.new)) }
+        show_as stands_for (stop_reading cause filler reader.old) ≡ (tree_of made, reader.new)) }
 {
     reader.stop_here(cause);
     let name = reader.name()?;

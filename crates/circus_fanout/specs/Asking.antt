@@ -105,8 +105,8 @@ abbrev pub differs : List (Said Reply) → Reply → Bool
 differs said reply = option_map_or (λ (first : Said Reply). not (reply_eq first.value reply)) (slice_get said 0) false
 
 -- a watchdog tells a reply that differs, by the places of the first and of this one
-abbrev pub watched : Kind → List (Said Reply) → Reply → Watched
-watched kind said reply = if is_watchdog kind && differs said reply then Differs 0 (length said) else Quiet
+abbrev pub watch_reply : Kind → List (Said Reply) → Reply → Watched
+watch_reply kind said reply = if is_watchdog kind && differs said reply then Differs 0 (length said) else Quiet
 
 -- once a node answered that the call is before its first one
 abbrev pub with_before : ℕ → Asking → Asking
@@ -154,5 +154,5 @@ abbrev pub is_done : List ℕ → List Asked → Entry → Bool
 is_done down asked e = is_among down e.node || option_map_or is_settled (sending_to asked e.node) false
 
 -- each entry of the view is
-abbrev pub settled : View → List ℕ → Asking → Bool
-settled view down a = list_all (is_done down a.asked) view.entries
+abbrev pub all_settled : View → List ℕ → Asking → Bool
+all_settled view down a = list_all (is_done down a.asked) view.entries

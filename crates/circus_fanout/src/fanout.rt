@@ -94,7 +94,7 @@ impl Fanout {
     pub fn replied(&mut self, node: u16, reply: Reply) -> Result<Watched, NoMemory>
         ensures kept { OnOk result (self.new ≡ asking.with_reply node reply self.old) }
         ensures watched { IfOk result (λ watched.
-            watched ≡ asking.watched self.old.kind self.old.said reply) }
+            watched ≡ asking.watch_reply self.old.kind self.old.said reply) }
         ensures refused { OnErr result (self.new ≡ self.old) }
     {
         let watched = watch(self.kind, self.said.as_slice(), &reply);
@@ -141,7 +141,7 @@ impl Fanout {
     /// Whether each entry of the view that isn't down has replied, or answered that the call is before its first
     /// one. It takes no memory.
     pub fn settled(&self, view: &View, down: &Nodes) -> bool
-        ensures { result ≡ asking.settled view.now down.now self.now }
+        ensures { result ≡ asking.all_settled view.now down.now self.now }
     {
         all_done(view, down, self.asked.as_slice())
     }
@@ -192,7 +192,7 @@ fn index_of(header: &CallHeader) -> u32
 
 // Whether a reply differs from the first of those before it, where that is watched.
 fn watch(kind: Kind, said: &[Said<Reply>], reply: &Reply) -> Watched
-    ensures { result ≡ asking.watched kind said.now reply.now }
+    ensures { result ≡ asking.watch_reply kind said.now reply.now }
 {
     match (kind, said.first()) {
         (Kind::Watchdog, Some(first)) if first.value != *reply => Watched::Differs(0, said.len()),

@@ -2,7 +2,7 @@
 ghost use Rattle.std.specs.Prelude.{◌≡◌, map, IfOk};
 ghost use Rattle.circus_syntax.specs.InterfaceTree.{interface_of};
 ghost use Rattle.circus_syntax.specs.Spelling.{most_levels};
-ghost use Rattle.circus_expression.specs.Standing.{shown};
+ghost use Rattle.circus_expression.specs.Standing.{show_as};
 ghost use Rattle.circus_lang.specs.ModuleTree.{module_of};
 ghost use Rattle.circus_lang.specs.ModuleStanding.{module_stands_for};
 ghost use Rattle.circus_file.specs.ProgramTree.{program_of, program_stands_for};
@@ -19,7 +19,7 @@ use circus_value::NoMemory;
 /// places are that of the stop (docs/LANGUAGE.md, "Program files"). `NoMemory` is the only fault.
 pub fn program(reader: &mut Reader<'_>) -> Result<ProgramText, NoMemory>
     ensures { IfOk result (λ read.
-        shown program_stands_for (program most_levels reader.old) ≡ (program_of read, reader.new)) }
+        show_as program_stands_for (program most_levels reader.old) ≡ (program_of read, reader.new)) }
 {
     let format = heading(reader);
     let interfaces = interfaces(reader)?;
@@ -69,7 +69,7 @@ fn interfaces(reader: &mut Reader<'_>) -> Result<InterfaceTexts, NoMemory>
 
 fn modules(reader: &mut Reader<'_>) -> Result<ModuleTexts, NoMemory>
     ensures { IfOk result (λ read.
-        shown (map module_stands_for) (modules most_levels reader.old)
+        show_as (map module_stands_for) (modules most_levels reader.old)
         ≡ (map module_of read, reader.new)) }
 {
     let mut modules = ModuleTexts::new(reader.alloc());

@@ -10,7 +10,7 @@ use Rattle.std.proofs.lemmas.Bool.{eqb-true, eq-eqb, ne_eqb, cases_eq}
 use Rattle.circus_gather.specs.declared.held.HeldCall.{HeldCall}
 use Rattle.circus_gather.specs.declared.group.Group.{Group}
 use Rattle.circus_gather.specs.Gathering.{index_of, is_of_index}
-use Rattle.circus_gather.specs.Seen.Groups.{is_in_group, stays, spared}
+use Rattle.circus_gather.specs.Seen.Groups.{is_in_group, stays, spare_call}
 use Rattle.circus_gather.specs.Seen.Slots.{items_in, places_from, item_at, calls_at, empty_slots}
 use Rattle.circus_collate.proofs.Going.{front}
 
@@ -238,7 +238,7 @@ spared_some : (b : Bool) (o : Option HeldCall) (c : HeldCall) → Some c ≡ con
 spared_some true o c e = (refl, sym e)
 spared_some false o c e = cc
 
-spared_none : («module» : ℕ) (group : Group) (o : Option HeldCall) → None ≡ spared «module» group o → stays «module» group o ≡ false
+spared_none : («module» : ℕ) (group : Group) (o : Option HeldCall) → None ≡ spare_call «module» group o → stays «module» group o ≡ false
 spared_none «module» group None e = refl
 spared_none «module» group (Some d) e = by (not (is_in_group «module» group d)) e
   where
@@ -256,13 +256,13 @@ module _ («module» : ℕ) (group : Group) (slots : List (Option HeldCall)) (i 
       ap (filter (stays «module» group)) (take_more slots i o few ∙ ap (λ p. take i slots ++ p ∷ []) (sym is))
       ∙ filter-append (stays «module» group) (take i slots) (o ∷ [])
 
-  pub stay_more : (o : Option HeldCall) (c : HeldCall) → i < length slots → o ≡ get_or slots i o → Some c ≡ spared «module» group o
+  pub stay_more : (o : Option HeldCall) (c : HeldCall) → i < length slots → o ≡ get_or slots i o → Some c ≡ spare_call «module» group o
       → filter (stays «module» group) (take (i + 1) slots) ≡ so_far ++ Some c ∷ []
   stay_more o c few is there =
       let both = spared_some (stays «module» group o) o c there in
       so_far_and o few is ∙ ap (λ b. so_far ++ cond b (o ∷ []) []) both.0 ∙ ap (λ p. so_far ++ p ∷ []) both.1
 
-  pub stay_none : (o : Option HeldCall) → i < length slots → o ≡ get_or slots i o → None ≡ spared «module» group o
+  pub stay_none : (o : Option HeldCall) → i < length slots → o ≡ get_or slots i o → None ≡ spare_call «module» group o
       → filter (stays «module» group) (take (i + 1) slots) ≡ so_far
   stay_none o few is there =
       so_far_and o few is ∙ ap (λ b. so_far ++ cond b (o ∷ []) []) (spared_none «module» group o there) ∙ append-nil so_far

@@ -9,7 +9,7 @@ use Rattle.circus_collate.specs.declared.kind.Kind.{Kind}
 use Rattle.circus_collate.specs.declared.view.View.{View}
 use Rattle.circus_collate.specs.declared.giving.Said.{Said}
 use Rattle.circus_collate.specs.Expecting.{expected_nodes}
-use Rattle.circus_collate.specs.Giving.{given}
+use Rattle.circus_collate.specs.Giving.{place_of_value}
 use Rattle.circus_value.specs.declared.caller.Caller.{Caller}
 use Rattle.circus_gather.specs.declared.held.HeldCall.{HeldCall}
 use Rattle.circus_gather.specs.declared.added.Added.{Added}
@@ -105,7 +105,7 @@ as_said call = record { node = call.sender.node; value = call }
 -- the call that the collator gives of those that were made
 unfoldable pub given_call : List View → List ℕ → Kind → List (Said HeldCall) → Option HeldCall
 given_call views down kind said =
-    option_and_then (λ place. option_map (λ (s : Said HeldCall). s.value) (slice_get said place)) (given is_same_call (expected_callers views) said kind down)
+    option_and_then (λ place. option_map (λ (s : Said HeldCall). s.value) (slice_get said place)) (place_of_value is_same_call (expected_callers views) said kind down)
 
 -- the call that it gives of those that count for the run of an index
 abbrev pub call_to_start : Gathered → List View → List ℕ → Kind → ℕ → Option HeldCall

@@ -87,7 +87,7 @@ pub(crate) fn places_without(
 
 // The call of a slot, where it is in no group.
 fn call_outside(module: u16, slot: &Option<HeldCall>, group: Group) -> Option<&HeldCall>
-    ensures { option_copied result ≡ groups.spared «module» group slot.now }
+    ensures { option_copied result ≡ groups.spare_call «module» group slot.now }
 {
     match slot.as_ref() {
         Some(call) if !group.has(module, call) => Some(call),

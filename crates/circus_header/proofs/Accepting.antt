@@ -3,7 +3,7 @@ use Rattle.std.proofs.lemmas.List.{append-nil}
 use Rattle.std.proofs.lemmas.List.Elements.{All-nil, All-cons, All-head, All-tail}
 use Rattle.std.proofs.Common.{◌≡◌, ℕ, zero, suc, ◌≤◌, List, [], ◌∷◌, ◌++◌, length, map, All, refl, sym, ap, ◌∙◌, subst, arith, append_assoc}
 use Rattle.circus_header.specs.Field.{Field, word, long, HasRoom}
-use Rattle.circus_header.specs.Seen.Layout.{Size, of_word, of_long, field_of, Layout, end, field, followed, numbers}
+use Rattle.circus_header.specs.Seen.Layout.{Size, of_word, of_long, field_of, Layout, end, field, then_layout, numbers}
 
 abbrev pub size_of : Field → Size
 size_of (word _) = of_word
@@ -71,7 +71,7 @@ room_of (field of_word l m next) (long n ∷ fs) x live a = let no : of_long ≡
 room_of (field of_long l m next) (word n ∷ fs) x live a = let no : of_word ≡ of_long = a.0 in cc
 
 pub accepts_followed : {A B : Type 0} (t : Layout A) (k : A → Layout B) (fs gs : List Field) (x : A) (y : B)
-    → Accepts t fs x → Accepts (k x) gs y → Accepts (followed t k) (fs ++ gs) y
+    → Accepts t fs x → Accepts (k x) gs y → Accepts (then_layout t k) (fs ++ gs) y
 accepts_followed (end z) k [] gs x y a b = subst (λ w. Accepts (k w) gs y) a b
 accepts_followed (end z) k (f ∷ fs) gs x y a b = absurd a
 accepts_followed (field s l m next) k [] gs x y a b = absurd a
@@ -88,7 +88,7 @@ pub record Parted {A B : Type 0} (t : Layout A) (k : A → Layout B) (hs : List 
   pub second : Accepts (k x) gs y
 
 pub parted : {A B : Type 0} (t : Layout A) (k : A → Layout B) (hs : List Field) (y : B)
-    → Accepts (followed t k) hs y → Parted t k hs y
+    → Accepts (then_layout t k) hs y → Parted t k hs y
 parted (end x) k hs y a = record { fs = []; gs = hs; x = x; are = refl; first = refl; second = a }
 parted (field s l m next) k [] y a = absurd a
 parted (field s l m next) k (f ∷ hs) y a =
@@ -96,7 +96,7 @@ parted (field s l m next) k (f ∷ hs) y a =
     record { fs = f ∷ p.fs; gs = p.gs; x = p.x; are = ap (λ r. f ∷ r) p.are; first = (a.0, a.1, a.2, p.first); second = p.second }
 
 pub live_followed : {A B : Type 0} (t : Layout A) (k : A → Layout B)
-    → Live t → ((fs : List Field) (x : A) → Accepts t fs x → Live (k x)) → Live (followed t k)
+    → Live t → ((fs : List Field) (x : A) → Accepts t fs x → Live (k x)) → Live (then_layout t k)
 live_followed (end x) k live each = each [] x refl
 live_followed (field s l m next) k live each = (
   live.0,
@@ -149,9 +149,9 @@ taken_field of_long l m n next fs x a = (a.1, a.2, a.3)
 
 -- a layout whose meaning is put into another form
 pub accepts_mapped : {A B : Type 0} (t : Layout A) (f : A → B) (fs : List Field) (x : A)
-    → Accepts t fs x → Accepts (followed t (λ y. end (f y))) fs (f x)
+    → Accepts t fs x → Accepts (then_layout t (λ y. end (f y))) fs (f x)
 accepts_mapped t f fs x a =
-    subst (λ w. Accepts (followed t (λ y. end (f y))) w (f x)) (append-nil fs) (accepts_followed t (λ y. end (f y)) fs [] x (f x) a refl)
+    subst (λ w. Accepts (then_layout t (λ y. end (f y))) w (f x)) (append-nil fs) (accepts_followed t (λ y. end (f y)) fs [] x (f x) a refl)
 
 pub record Mapped {A B : Type 0} (t : Layout A) (f : A → B) (fs : List Field) (z : B) : Type 0 where
   pub x : A
@@ -163,7 +163,7 @@ ends_with y [] x a = (refl, a)
 ends_with y (g ∷ gs) x a = absurd a
 
 pub mapped : {A B : Type 0} (t : Layout A) (f : A → B) (hs : List Field) (z : B)
-    → Accepts (followed t (λ y. end (f y))) hs z → Mapped t f hs z
+    → Accepts (then_layout t (λ y. end (f y))) hs z → Mapped t f hs z
 mapped t f hs z a =
     let p = parted t (λ y. end (f y)) hs z a in
     let last = ends_with (f p.x) p.gs z p.second in

@@ -2,7 +2,7 @@
 use Rattle.std.proofs.Common.{◌≡◌, ℕ, ◌+◌, ◌<◌, ◌≤◌, ◌^◌, max, List, [], ◌∷◌, ◌++◌, length, map, All, refl, sym, ap, ◌∙◌, subst, arith}
 use Rattle.circus_header.specs.Field.{Field, word, long, HasRoom}
 use Rattle.circus_header.specs.CallFields.{ask_fields, IsAsk}
-use Rattle.circus_header.specs.Seen.Layout.{of_word, of_long, end, field, followed}
+use Rattle.circus_header.specs.Seen.Layout.{of_word, of_long, end, field, then_layout}
 use Rattle.circus_header.specs.Seen.Layouts.{path_layout, clock_layout, client_layout, server_layout, ask_of, behind_server, behind_client, behind_path, ask_layout}
 use Rattle.circus_header.specs.declared.party.Client.{Client}
 use Rattle.circus_header.specs.declared.party.Server.{Server}
@@ -151,7 +151,7 @@ ask_is n path client server clock pf cf sf sg le p c s k =
 
 pub ask_meant : (h : CallHeader) (fs : List Field) → Accepts ask_layout fs h → IsAsk h × (ask_fields h ≡ fs)
 ask_meant h fs a =
-    let root = front of_word 0 31 (λ root. followed path_layout (behind_path root)) fs h a in
+    let root = front of_word 0 31 (λ root. then_layout path_layout (behind_path root)) fs h a in
     let path = parted path_layout (behind_path root.n) root.others h root.taken in
     let client = parted client_layout (behind_client root.n path.x) path.gs h path.second in
     let server = parted server_layout (behind_server root.n path.x client.x) client.gs h client.second in

@@ -7,7 +7,7 @@ use Rattle.circus_header.specs.declared.party.Client.{Client}
 use Rattle.circus_header.specs.declared.party.Server.{Server}
 use Rattle.circus_header.proofs.Accepting.{Accepts, accepts_field}
 use Rattle.circus_header.proofs.Asks.{client_meant, server_meant}
-use Rattle.circus_header.specs.Seen.Layout.{field_of, size_len, Size, Layout, end, field, followed, one, numbers, Reading, refused, ended, cut, out, more}
+use Rattle.circus_header.specs.Seen.Layout.{field_of, size_len, Size, Layout, end, field, then_layout, one, numbers, Reading, refused, ended, cut, out, more}
 use Rattle.circus_header.specs.Seen.Layouts.{client_layout, server_layout, fetch_layout, call_by, return_by}
 use Rattle.circus_header.specs.declared.call.Call.{Call}
 use Rattle.circus_header.specs.declared.answer.ReturnHeader.{ReturnHeader}
@@ -21,12 +21,12 @@ After octets next (Ok x) q = Reading octets (next x.0) x.1 q
 After octets next (Err e) q = q ≡ Err e
 
 pub read_on : {A B : Type 0} (octets : List ℕ) (t : Layout A) (next : A → Layout B) (at : ℕ) (r : Result (A × ℕ) HeaderFault) (q : Result (B × ℕ) HeaderFault)
-    → Reading octets t at r → After octets next r q → Reading octets (followed t next) at q
-read_on octets t next at r q refused a = subst (λ w. Reading octets (followed t next) at w) (sym a) refused
+    → Reading octets t at r → After octets next r q → Reading octets (then_layout t next) at q
+read_on octets t next at r q refused a = subst (λ w. Reading octets (then_layout t next) at w) (sym a) refused
 read_on octets (end x) next at r q ended a = a
-read_on octets (field s l m k) next at r q (cut short) a = subst (λ w. Reading octets (followed (field s l m k) next) at w) (sym a) (cut short)
+read_on octets (field s l m k) next at r q (cut short) a = subst (λ w. Reading octets (then_layout (field s l m k) next) at w) (sym a) (cut short)
 read_on octets (field s l m k) next at r q (out n stands outside) a =
-    subst (λ w. Reading octets (followed (field s l m k) next) at w) (sym a) (out n stands outside)
+    subst (λ w. Reading octets (then_layout (field s l m k) next) at w) (sym a) (out n stands outside)
 read_on octets (field s l m k) next at r q (more n stands low high rest) a = more n stands low high (read_on octets (k n) next _ r q rest a)
 
 -- the fault that `?` passes on
@@ -42,11 +42,11 @@ pub next_failed : {B : Type 0} {octets : List ℕ} {s : Size} {l m : ℕ} {next 
 next_failed {octets = octets} {s = s} {l = l} {m = m} {next = next} {at = at} {e = e} {q = q} a p = read_on octets (one s l m) next at (Err e) q a (passed q e p)
 
 pub then_read : {A B : Type 0} {octets : List ℕ} (t : Layout A) (next : A → Layout B) {at : ℕ} {x : A} {to : ℕ} {q : Result (B × ℕ) HeaderFault}
-    → Reading octets t at (Ok (x, to)) → Reading octets (next x) to q → Reading octets (followed t next) at q
+    → Reading octets t at (Ok (x, to)) → Reading octets (next x) to q → Reading octets (then_layout t next) at q
 then_read {octets = octets} t next {at = at} {x = x} {to = to} {q = q} a b = read_on octets t next at (Ok (x, to)) q a b
 
 pub then_failed : {A B : Type 0} {octets : List ℕ} (t : Layout A) (next : A → Layout B) {at : ℕ} {e : HeaderFault} {q : Result (B × ℕ) HeaderFault}
-    → Reading octets t at (Err e) → IsErr q × IsErrAnd q (λ f. f ≡ e) → Reading octets (followed t next) at q
+    → Reading octets t at (Err e) → IsErr q × IsErrAnd q (λ f. f ≡ e) → Reading octets (then_layout t next) at q
 then_failed {octets = octets} t next {at = at} {e = e} {q = q} a p = read_on octets t next at (Err e) q a (passed q e p)
 
 -- want of memory stands for any answer

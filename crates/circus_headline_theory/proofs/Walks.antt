@@ -27,7 +27,7 @@ use Rattle.circus_world.specs.declared.cause.LineCause.TheVariants.{NotLive, Not
 use Rattle.circus_world.specs.declared.sent.Sent.{Sent}
 use Rattle.circus_world.specs.WorldState.{WorldState, Standing, is_live, has_crashed}
 use Rattle.circus_world.specs.Legal.{unless_told, is_spare}
-use Rattle.circus_world.specs.Course.{Stepped, sent_by, noted, pass_step, told_to_join, conclude_step, comes_to, step_line}
+use Rattle.circus_world.specs.Course.{Stepped, sent_by, note_at, pass_step, told_to_join, conclude_step, comes_to, step_line}
 use Rattle.circus_world.specs.Lines.{Leads}
 use Rattle.circus_world.proofs.ComeLemmas.{live_then, datagram_may_come, delivered_at, down_differs}
 use Rattle.circus_world.proofs.SlotLemmas.{get_there, all_at}
@@ -286,9 +286,9 @@ module _ {M : Type 0} (declared : M → Signature) (turn : M → List ValueTree 
       crashed_here other is same live =
           let alive : s.crashed ≡ None = live_at w node s at (ap (λ k. is_live w k) (sym same) ∙ live) in
           let note : Standing M → Standing M = λ x. record x { crashed = Some (w.steps + 1) } in
-          let world_is = same_world (pass_step (noted note other w)) next is in
+          let world_is = same_world (pass_step (note_at note other w)) next is in
           unmoved (Crash other) w next s (note s)
-          (ap (λ (x : WorldState M). slice_get x.nodes node) (sym world_is) ∙ ap (λ k. slice_get (noted note k w).nodes node) same ∙ noted_at note node w s at)
+          (ap (λ (x : WorldState M). slice_get x.nodes node) (sym world_is) ∙ ap (λ k. slice_get (note_at note k w).nodes node) same ∙ noted_at note node w s at)
           refl (ap (λ (x : WorldState M). x.steps) (sym world_is)) (ap (λ (x : WorldState M). x.sent) (sym world_is)) refl
           (λ alive none. absurd (let clash : false ≡ true = sym none ∙ eq-eqb other node same in cc))
           (λ gone. absurd (let clash : false ≡ true = sym (ap is_some alive) ∙ gone in cc)) (λ crash. refl) refl
@@ -296,7 +296,7 @@ module _ {M : Type 0} (declared : M → Signature) (turn : M → List ValueTree 
       crashed_elsewhere : (other : ℕ) → step_line declared turn (Crash other) w ≡ Ok next → other ≢ node → other < length w.nodes → IsStill (Crash other) w next s
       crashed_elsewhere other is differ below =
           let note : Standing M → Standing M = λ x. record x { crashed = Some (w.steps + 1) } in
-          let world_is = same_world (pass_step (noted note other w)) next is in
+          let world_is = same_world (pass_step (note_at note other w)) next is in
           let u = get_there w.nodes other below in
           unmoved (Crash other) w next s s
           (ap (λ (x : WorldState M). slice_get x.nodes node) (sym world_is)
@@ -317,7 +317,7 @@ module _ {M : Type 0} (declared : M → Signature) (turn : M → List ValueTree 
       is_told other u at_other = elim (eqb_tells other node) [
         | inl same ↦ record {
           t = note s;
-          there = ap (λ k. slice_get (noted note k w).nodes node) same.1 ∙ noted_at note node w s at;
+          there = ap (λ k. slice_get (note_at note k w).nodes node) same.1 ∙ noted_at note node w s at;
           node_is = refl;
           crashed_is = refl;
           joins_is = sym (ap (λ b. b || s.joins) (eq-eqb other node same.1));

@@ -14,7 +14,7 @@ use Rattle.circus_syntax.specs.Spelling.{most_levels}
 use Rattle.circus_syntax.proofs.Sound.{Sound, reader}
 use Rattle.circus_syntax.proofs.Viewed.{text_tokens}
 use Rattle.circus_expression.specs.Ending.{Are, IsUnexpected, IsTooDeep}
-use Rattle.circus_expression.specs.Standing.{shown}
+use Rattle.circus_expression.specs.Standing.{show_as}
 use Rattle.circus_expression.proofs.Ends.{reads, read_whole, unexpected, too_deep, filled_in}
 use Rattle.circus_lang.specs.declared.lang_fault.LangFault.TheVariants.{Expected, Deep}
 use Rattle.circus_lang.specs.declared.read.ReadModule.{ReadModule}
@@ -111,7 +111,7 @@ pub accepted : (text : List ℕ) (ts : List Token) (at : ℕ) (read : ReadModule
     → (module_of read.«module» ≡ module_stands_for w) × (read.next ≡ at + length own) × (read.stop ≡ None)
 accepted text ts at read own rest w inside A whole is within =
     let same : (module_of read.«module», reader read.stop A.left (length text)) ≡ (module_stands_for w, reader None rest (length text)) =
-    sym A.is ∙ ap (λ l. shown module_stands_for (module_text most_levels (reader None l (length text)))) whole ∙ ap (shown module_stands_for) (reads modules_lawful most_levels own rest w (length text) is within tt) in
+    sym A.is ∙ ap (λ l. show_as module_stands_for (module_text most_levels (reader None l (length text)))) whole ∙ ap (show_as module_stands_for) (reads modules_lawful most_levels own rest w (length text) is within tt) in
     let left_is : A.left ≡ rest = ap (λ (x : ModuleTree × Reader). x.1.rest) same in (
       ap (λ (x : ModuleTree × Reader). x.0) same,
       next_at text ts at read.next own A.left inside (whole ∙ ap (λ l. own ++ l) (sym left_is)) A.next,

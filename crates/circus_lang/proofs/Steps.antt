@@ -8,7 +8,7 @@ use Rattle.circus_syntax.specs.Reader.{Reader, place, sees, nothing}
 use Rattle.circus_syntax.specs.Reading.{expect_token, name, names, behind, type}
 use Rattle.circus_syntax.proofs.ByWord.{fixed_at_is}
 use Rattle.circus_syntax.proofs.Loops.{goes_on, goes_end, goes_step, shorter}
-use Rattle.circus_expression.specs.Standing.{shown}
+use Rattle.circus_expression.specs.Standing.{show_as}
 use Rattle.circus_expression.proofs.Stands.{either_hit, either_missed}
 use Rattle.circus_statement.specs.StatementTree.{StatementTree}
 use Rattle.circus_statement.specs.StatementReading.{is_word, list_end, block}
@@ -59,8 +59,8 @@ variables_end n all done r b so_far seen missed = so_far ∙ goes_end (is_word (
 body_tree : List VariableTree → List StatementTree → BodyOf StatementTree
 body_tree vs ss = record { variables = vs; statements = ss }
 
-pub body_is : (n : ℕ) (r s t u v : Reader) (vs : List VariableTree) (ss : List StatementTree) → variables n r ≡ (vs, s) → shown (map statement.stands_for) (block n (codes "BEGIN") s) ≡ (ss, t)
-    → expect_token (word (codes "END")) t ≡ (tt, u) → expect_token (sign (codes ";")) u ≡ (tt, v) → shown body_stands_for (body n r) ≡ (record { variables = vs; statements = ss }, v)
+pub body_is : (n : ℕ) (r s t u v : Reader) (vs : List VariableTree) (ss : List StatementTree) → variables n r ≡ (vs, s) → show_as (map statement.stands_for) (block n (codes "BEGIN") s) ≡ (ss, t)
+    → expect_token (word (codes "END")) t ≡ (tt, u) → expect_token (sign (codes ";")) u ≡ (tt, v) → show_as body_stands_for (body n r) ≡ (record { variables = vs; statements = ss }, v)
 unfolding body list_end body_tree
 body_is n r s t u v vs ss first second third fourth =
     ap (λ (z : List VariableTree × Reader). (body_tree z.0 (map statement.stands_for (block n (codes "BEGIN") z.1).0), (expect_token (sign (codes ";")) (expect_token (word (codes "END")) (block n (codes "BEGIN") z.1).1).1).1)) first
@@ -71,8 +71,8 @@ body_is n r s t u v vs ss first second third fourth =
 procedure_tree : Named → BodyOf StatementTree → ProcedureOf StatementTree
 procedure_tree k b = record { name = k; body = b }
 
-pub procedure_is : (n : ℕ) (r s t u : Reader) (k : Named) (b : BodyOf StatementTree) → expect_token (word (codes "PROCEDURE")) r ≡ (tt, s) → name s ≡ (k, t) → shown body_stands_for (body n t) ≡ (b, u)
-    → shown procedure_stands_for (procedure n r) ≡ (record { name = k; body = b }, u)
+pub procedure_is : (n : ℕ) (r s t u : Reader) (k : Named) (b : BodyOf StatementTree) → expect_token (word (codes "PROCEDURE")) r ≡ (tt, s) → name s ≡ (k, t) → show_as body_stands_for (body n t) ≡ (b, u)
+    → show_as procedure_stands_for (procedure n r) ≡ (record { name = k; body = b }, u)
 unfolding procedure procedure_tree
 procedure_is n r s t u k b first second third =
     ap (λ (z : Unit {0} × Reader). (procedure_tree (name z.1).0 (body_stands_for (body n (name z.1).1).0), (body n (name z.1).1).1)) first
@@ -82,15 +82,15 @@ procedure_is n r s t u k b first second third =
 named_at : List ℕ → ℕ → Named
 named_at w p = record { name = w; at = p }
 
-pub main_is : (n : ℕ) (r s t : Reader) (w : List ℕ) (p : ℕ) (b : BodyOf StatementTree) → w ≡ codes "MAIN" → p ≡ place r → expect_token (word (codes "MAIN")) r ≡ (tt, s) → shown body_stands_for (body n s) ≡ (b, t)
-    → shown main_stands_for (main_procedure n r) ≡ (record { name = record { name = w; at = p }; body = b }, t)
+pub main_is : (n : ℕ) (r s t : Reader) (w : List ℕ) (p : ℕ) (b : BodyOf StatementTree) → w ≡ codes "MAIN" → p ≡ place r → expect_token (word (codes "MAIN")) r ≡ (tt, s) → show_as body_stands_for (body n s) ≡ (b, t)
+    → show_as main_stands_for (main_procedure n r) ≡ (record { name = record { name = w; at = p }; body = b }, t)
 unfolding main_procedure procedure_tree named_at
 main_is n r s t w p b word_is there first second =
     ap (λ (z : ℕ × Reader). (procedure_tree (main_at z.0) (body_stands_for (body n z.1).0), (body n z.1).1)) (fixed_at_is (word (codes "MAIN")) r s first)
     ∙ ap (λ (z : BodyOf StatementTree × Reader). (procedure_tree (main_at (place r)) z.0, z.1)) second
     ∙ (λ i. (procedure_tree (named_at (sym word_is i) (sym there i)) b, t))
 
-pub procedures_begin : (n : ℕ) (r : Reader) (none : List (ProcedureOf StatementTree)) → none ≡ [] → shown (map procedure_stands_for) (procedures n r) ≡ go_on procedure_stands_for (is_word (codes "PROCEDURE")) (procedure n) none r
+pub procedures_begin : (n : ℕ) (r : Reader) (none : List (ProcedureOf StatementTree)) → none ≡ [] → show_as (map procedure_stands_for) (procedures n r) ≡ go_on procedure_stands_for (is_word (codes "PROCEDURE")) (procedure n) none r
 unfolding procedures
 procedures_begin n r none empty = ap (λ l. go_on procedure_stands_for (is_word (codes "PROCEDURE")) (procedure n) l r) (sym empty)
 
@@ -101,20 +101,20 @@ module_tree b k i ns vs ps = record { root = b; name = k; interface = i; imports
 
 pub serving_is : (n : ℕ) (r s t u v w x y z : Reader) (k i : Named) (ns : List Named) (vs : List VariableTree) (ps : List (ProcedureOf StatementTree))
     → expect_token (word (codes "MODULE")) r ≡ (tt, s) → name s ≡ (k, t) → expect_token (word (codes "IMPLEMENTS")) t ≡ (tt, u) → name u ≡ (i, v) → heading v ≡ (ns, w) → variables n w ≡ (vs, x)
-    → shown (map procedure_stands_for) (procedures n x) ≡ (ps, y) → module_end y ≡ (tt, z)
-    → shown module_stands_for (serving_module n r) ≡ (record { root = false; name = k; interface = Some i; imports = ns; variables = vs; procedures = ps }, z)
+    → show_as (map procedure_stands_for) (procedures n x) ≡ (ps, y) → module_end y ≡ (tt, z)
+    → show_as module_stands_for (serving_module n r) ≡ (record { root = false; name = k; interface = Some i; imports = ns; variables = vs; procedures = ps }, z)
 unfolding serving_module module_tree
 serving_is n r s t u v w x y z k i ns vs ps a b c d e f g h =
     front
     ∙ ap (λ (q : List (ProcedureOf StatementTree) × Reader). (module_tree false k (Some i) ns vs q.0, (module_end q.1).1)) g
     ∙ ap (λ (q : Unit {0} × Reader). (module_tree false k (Some i) ns vs ps, q.1)) h
   where
-    front : shown module_stands_for (serving_module n r) ≡ (module_tree false k (Some i) ns vs (map procedure_stands_for (procedures n x).0), (module_end (procedures n x).1).1)
+    front : show_as module_stands_for (serving_module n r) ≡ (module_tree false k (Some i) ns vs (map procedure_stands_for (procedures n x).0), (module_end (procedures n x).1).1)
     front = rw (a, b, c, d, e, f) refl
 
 pub root_is : (n : ℕ) (r s t u v w x : Reader) (k : Named) (ns : List Named) (vs : List VariableTree) (p : ProcedureOf StatementTree) (ps : List (ProcedureOf StatementTree))
-    → expect_token (word (codes "ROOT")) r ≡ (tt, s) → name s ≡ (k, t) → heading t ≡ (ns, u) → variables n u ≡ (vs, v) → shown main_stands_for (main_procedure n v) ≡ (p, w) → ps ≡ p ∷ [] → module_end w ≡ (tt, x)
-    → shown module_stands_for (root_module n r) ≡ (record { root = true; name = k; interface = None; imports = ns; variables = vs; procedures = ps }, x)
+    → expect_token (word (codes "ROOT")) r ≡ (tt, s) → name s ≡ (k, t) → heading t ≡ (ns, u) → variables n u ≡ (vs, v) → show_as main_stands_for (main_procedure n v) ≡ (p, w) → ps ≡ p ∷ [] → module_end w ≡ (tt, x)
+    → show_as module_stands_for (root_module n r) ≡ (record { root = true; name = k; interface = None; imports = ns; variables = vs; procedures = ps }, x)
 unfolding root_module module_tree
 root_is n r s t u v w x k ns vs p ps a b c d e one f =
     front
@@ -122,7 +122,7 @@ root_is n r s t u v w x k ns vs p ps a b c d e one f =
     ∙ ap (λ (q : Unit {0} × Reader). (module_tree true k None ns vs (p ∷ []), q.1)) f
     ∙ ap (λ l. (module_tree true k None ns vs l, x)) (sym one)
   where
-    front : shown module_stands_for (root_module n r) ≡ (module_tree true k None ns vs (main_stands_for (main_procedure n v).0 ∷ []), (module_end (main_procedure n v).1).1)
+    front : show_as module_stands_for (root_module n r) ≡ (module_tree true k None ns vs (main_stands_for (main_procedure n v).0 ∷ []), (module_end (main_procedure n v).1).1)
     front = rw (a, b, c, d) refl
 
 pub module_is_root : (n : ℕ) (r : Reader) (b : Bool) → b ≡ sees (is_word (codes "ROOT")) r → b ≡ true → module_text n r ≡ root_module n r

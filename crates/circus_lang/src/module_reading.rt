@@ -2,7 +2,7 @@
 ghost use Rattle.std.specs.Prelude.{◌≡◌, ℕ, true, false, codes, map, Some, None, IfOk};
 ghost use Rattle.circus_syntax.specs.Reader.{place, sees};
 ghost use Rattle.circus_syntax.specs.Spelling.{most_levels};
-ghost use Rattle.circus_expression.specs.Standing.{shown};
+ghost use Rattle.circus_expression.specs.Standing.{show_as};
 ghost use Rattle.circus_lang.specs.ModuleTree.{variable_of, procedure_of, module_of};
 ghost use Rattle.circus_lang.specs.ModuleStanding.{body_stands_for, procedure_stands_for, main_stands_for, module_stands_for};
 ghost use Rattle.circus_lang.specs.ModuleReading.{variable, variables, body, procedure, procedures, main_procedure, imports, heading, module_end, serving_module, root_module, module_text, begins_module};
@@ -22,7 +22,7 @@ pub fn begins_module(reader: &Reader<'_>) -> bool
 /// Reads a module or a root of at most 64 levels, or stops (docs/LANGUAGE.md, "Modules").
 pub fn module_or_root(reader: &mut Reader<'_>) -> Result<ModuleText, NoMemory>
     ensures { IfOk result (λ read.
-        shown module_stands_for (module_text most_levels reader.old)
+        show_as module_stands_for (module_text most_levels reader.old)
         ≡ (module_of read, reader.new)) }
 {
     if reader.sees_word(b"ROOT") {
@@ -35,7 +35,7 @@ pub fn module_or_root(reader: &mut Reader<'_>) -> Result<ModuleText, NoMemory>
 // A module that implements an interface.
 fn serving_module(reader: &mut Reader<'_>) -> Result<ModuleText, NoMemory>
     ensures { IfOk result (λ read.
-        shown module_stands_for (serving_module most_levels reader.old)
+        show_as module_stands_for (serving_module most_levels reader.old)
         ≡ (module_of read, reader.new)) }
 {
     reader.word(b"MODULE");
@@ -58,7 +58,7 @@ fn serving_module(reader: &mut Reader<'_>) -> Result<ModuleText, NoMemory>
 
 fn root(reader: &mut Reader<'_>) -> Result<ModuleText, NoMemory>
     ensures { IfOk result (λ read.
-        shown module_stands_for (root_module most_levels reader.old)
+        show_as module_stands_for (root_module most_levels reader.old)
         ≡ (module_of read, reader.new)) }
 {
     reader.word(b"ROOT");
@@ -124,7 +124,7 @@ fn variable(reader: &mut Reader<'_>) -> Result<VariableText, NoMemory>
 
 fn procedures(reader: &mut Reader<'_>) -> Result<ProcedureTexts, NoMemory>
     ensures { IfOk result (λ read.
-        shown (map procedure_stands_for) (procedures most_levels reader.old)
+        show_as (map procedure_stands_for) (procedures most_levels reader.old)
         ≡ (map procedure_of read, reader.new)) }
 {
     let mut procedures = ProcedureTexts::new(reader.alloc());
@@ -136,7 +136,7 @@ fn procedures(reader: &mut Reader<'_>) -> Result<ProcedureTexts, NoMemory>
 
 fn procedure(reader: &mut Reader<'_>) -> Result<ProcedureText, NoMemory>
     ensures { IfOk result (λ read.
-        shown procedure_stands_for (procedure most_levels reader.old)
+        show_as procedure_stands_for (procedure most_levels reader.old)
         ≡ (procedure_of read, reader.new)) }
 {
     reader.word(b"PROCEDURE");
@@ -152,7 +152,7 @@ fn procedure(reader: &mut Reader<'_>) -> Result<ProcedureText, NoMemory>
 // The procedure of a root.
 fn main_procedure(reader: &mut Reader<'_>) -> Result<ProcedureText, NoMemory>
     ensures { IfOk result (λ read.
-        shown main_stands_for (main_procedure most_levels reader.old)
+        show_as main_stands_for (main_procedure most_levels reader.old)
         ≡ (procedure_of read, reader.new)) }
 {
     let mut name = Name::new(reader.alloc());
@@ -169,7 +169,7 @@ fn main_procedure(reader: &mut Reader<'_>) -> Result<ProcedureText, NoMemory>
 
 fn body(reader: &mut Reader<'_>) -> Result<(VariableTexts, Statements), NoMemory>
     ensures { IfOk result (λ read.
-        shown body_stands_for (body most_levels reader.old)
+        show_as body_stands_for (body most_levels reader.old)
         ≡ (record { variables = map variable_of read.0; statements = read.1 }, reader.new)) }
 {
     let variables = variables(reader)?;

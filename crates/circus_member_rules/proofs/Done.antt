@@ -8,7 +8,7 @@ use Rattle.circus_header.specs.ReplyEquality.{reply_eq}
 use Rattle.circus_header.specs.declared.answer.Reply.{Reply}
 use Rattle.circus_collate.specs.declared.view.View.{View}
 use Rattle.circus_collate.specs.Expecting.{expected_nodes}
-use Rattle.circus_collate.specs.Giving.{given}
+use Rattle.circus_collate.specs.Giving.{place_of_value}
 use Rattle.circus_collate.specs.Collating.{answer as collated_answer, dispute}
 use Rattle.circus_model.specs.declared.signature.Signature.{Signature}
 use Rattle.circus_model.specs.NextTurn.{NextTurn}
@@ -50,8 +50,8 @@ no_replies_no_value k a none = by_view (slice_get k.views a.header.server)
     by_view None = refl
     by_view (Some view) =
         let nodes = expected_nodes view (index_of a.header) in
-        let given_none : given reply_eq (λ _. nodes) a.said a.kind k.down ≡ None =
-        ap (λ said. given reply_eq (λ _. nodes) said a.kind k.down) none ∙ none_given reply_eq (λ _. nodes) a.kind k.down in
+        let given_none : place_of_value reply_eq (λ _. nodes) a.said a.kind k.down ≡ None =
+        ap (λ said. place_of_value reply_eq (λ _. nodes) said a.kind k.down) none ∙ none_given reply_eq (λ _. nodes) a.kind k.down in
         ap (λ o. answer_in a (collated_answer o (dispute reply_eq nodes k.down a.said a.kind))) given_none
         ∙ by_answer (dispute reply_eq nodes k.down a.said a.kind)
 
@@ -168,13 +168,13 @@ module _ {M : Type 0} (declared : M → Signature) (turn : M → List ValueTree 
           subst (λ (e : Doing M). HasGoneOn e.member) (sym (none_started declared turn first lawful step (suc left) d nothing)) (record { no_value = no_value_given d none; none_starts = nothing })
       by_next rest (Some call) some =
           let e = given_states d in
-          let given = sound_given declared turn first lawful d sound in
+          let place_of_value = sound_given declared turn first lawful d sound in
           let b = behaviour declared turn first e.member.performing.hosted in
-          let may = may_start b e.member call (next_is_ready b e.member call given some) in
+          let may = may_start b e.member call (next_is_ready b e.member call place_of_value some) in
           let start = start_by declared turn first lawful step e.member call in
           let f = enter_run_of turn step e start in
           subst (λ (x : Doing M). HasGoneOn x.member) (sym (once_started declared turn first lawful step left d call some))
-          (rest f (sound_entered declared turn first lawful step e start given may) (less_enough declared turn first lawful step left d call sound some enough) (no_value_entered e start given may))
+          (rest f (sound_entered declared turn first lawful step e start place_of_value may) (less_enough declared turn first lawful step left d call sound some enough) (no_value_entered e start place_of_value may))
 
   pub executed_done : (d : Doing M) → IsSoundNow declared turn first lawful d.member → HasGoneOn (execute declared turn step d).member
   executed_done d sound =

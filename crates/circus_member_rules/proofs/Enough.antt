@@ -9,7 +9,7 @@ use Rattle.circus_value.specs.declared.outcome.Outcome.{Outcome}
 use Rattle.circus_collate.specs.declared.kind.Kind.{Kind}
 use Rattle.circus_collate.specs.declared.kind.Kind.TheVariants.{First, Majority, Unanimous, AtLeast, Watchdog}
 use Rattle.circus_collate.specs.declared.view.View.{View}
-use Rattle.circus_collate.specs.Giving.{given, first, unanimous, majority, reached, at_least, first_difference}
+use Rattle.circus_collate.specs.Giving.{place_of_value, first, unanimous, majority, reached, at_least, first_difference}
 use Rattle.circus_model.specs.declared.signature.Signature.{Signature}
 use Rattle.circus_model.specs.NextTurn.{NextTurn}
 use Rattle.circus_model.specs.Behaviour.{IsModule}
@@ -34,7 +34,7 @@ use Rattle.circus_member_rules.proofs.Starting.{and_right, none_from_test, given
 
 module _ {V : Type 0} (eq : V → V → Bool) (expected : V → List ℕ) where
   -- no collator gives a value over no words
-  pub none_given : (kind : Kind) (down : List ℕ) → given eq expected [] kind down ≡ None
+  pub none_given : (kind : Kind) (down : List ℕ) → place_of_value eq expected [] kind down ≡ None
   unfolding first unanimous majority reached at_least first_difference
   none_given First down = refl
   none_given Watchdog down = refl
@@ -234,10 +234,10 @@ module _ {M : Type 0} (declared : M → Signature) (turn : M → List ValueTree 
       by_next rest None none = none_started (suc left) d none ∙ sym (none_started (suc more) d none)
       by_next rest (Some call) some =
           let e = given_states d in
-          let given = sound_given declared turn first lawful d sound in
+          let place_of_value = sound_given declared turn first lawful d sound in
           let b = behaviour declared turn first e.member.performing.hosted in
-          let may = may_start b e.member call (next_is_ready b e.member call given some) in
+          let may = may_start b e.member call (next_is_ready b e.member call place_of_value some) in
           let f = enter_run_of turn step e (start_by e.member call) in
           once_started left d call some
-          ∙ rest f (sound_entered declared turn first lawful step e (start_by e.member call) given may) (less_enough left d call sound some enough) (less_enough more d call sound some others)
+          ∙ rest f (sound_entered declared turn first lawful step e (start_by e.member call) place_of_value may) (less_enough left d call sound some enough) (less_enough more d call sound some others)
           ∙ sym (once_started more d call some)

@@ -18,7 +18,7 @@ use Rattle.circus_gather.specs.declared.added.Added.{Added}
 use Rattle.circus_gather.specs.declared.added.Added.TheVariants as added
 use Rattle.circus_gather.specs.declared.held.HeldCall.{HeldCall}
 use Rattle.circus_gather.specs.Gathering.{answer_to, with_start, with_first}
-use Rattle.circus_fanout.specs.Asking.{Asking, settled, with_view, with_reply, with_before}
+use Rattle.circus_fanout.specs.Asking.{Asking, all_settled, with_view, with_reply, with_before}
 use Rattle.circus_performing.specs.declared.start.RunStart.{RunStart}
 use Rattle.circus_performing.specs.Performing.{open_ask, last_of, is_active, is_fetching, made_active}
 use Rattle.circus_performing.specs.Performing as performing
@@ -52,8 +52,8 @@ or_true false = refl
 
 settled_same : (k later : Knowing) (a : Asking) → later.views ≡ k.views → later.down ≡ k.down → is_settled later a ≡ is_settled k a
 settled_same k later a views down =
-    ap (λ (vs : List View). option_map_or (λ (view : View). settled view later.down a) (slice_get vs a.header.server) false) views
-    ∙ ap (λ (ns : List ℕ). option_map_or (λ (view : View). settled view ns a) (slice_get k.views a.header.server) false) down
+    ap (λ (vs : List View). option_map_or (λ (view : View). all_settled view later.down a) (slice_get vs a.header.server) false) views
+    ∙ ap (λ (ns : List ℕ). option_map_or (λ (view : View). all_settled view ns a) (slice_get k.views a.header.server) false) down
 
 called_down : (a : Added) (header : CallHeader) (k : Knowing) → (wanted_by_call a header k).down ≡ k.down
 called_down (added.Reply reply) header k = refl

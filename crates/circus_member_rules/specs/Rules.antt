@@ -160,11 +160,11 @@ difference_told name said (Differs one other) =
 
 -- a watchdog tells what it watches in a reply that comes from a node
 abbrev pub difference_by : AskName → ℕ → Reply → Asking → Option Difference
-difference_by name from reply a = difference_told name (asking.with_reply from reply a).said (asking.watched a.kind a.said reply)
+difference_by name from reply a = difference_told name (asking.with_reply from reply a).said (asking.watch_reply a.kind a.said reply)
 
 -- each entry of the view of an ask's server is down or has answered
 abbrev pub is_settled : Knowing → Asking → Bool
-is_settled k a = by_view k a (λ view. asking.settled view k.down a) false
+is_settled k a = by_view k a (λ view. asking.all_settled view k.down a) false
 
 -- an ask is closed where it is settled, once it has a value
 abbrev pub stays_open : Knowing → (AskName → Bool) → AskName × Asking → Bool

@@ -55,8 +55,8 @@ module _ (place : Place) (boot : List View) (begins : Joiner) where
       (λ (v : View). if has_node v node then to_ring (nodes_declared_down p) (Gone troupe node) else [])
       (slice_get (views_known boot p) troupe) []
 
-  abbrev pub gone : Past → ℕ → List Effect
-  gone p node =
+  abbrev pub gone_requests : Past → ℕ → List Effect
+  gone_requests p node =
       option_map_or (λ hosted. option_map_or (gone_from p node) hosted [])
       (slice_get place.troupes node) []
 
@@ -75,7 +75,7 @@ module _ (place : Place) (boot : List View) (begins : Joiner) where
       then to_ring (nodes_declared_down p) (Active place.troupe place.node count)
       else []
   for_what_came (followed p step (comes.Declared node)) =
-      gone (followed p step (comes.Declared node)) node
+      gone_requests (followed p step (comes.Declared node)) node
   for_what_came _ = []
 
   -- ---- Lookups, by the record in the end
@@ -91,21 +91,21 @@ module _ (place : Place) (boot : List View) (begins : Joiner) where
 
     -- the greatest incarnation that is wanted of a troupe: by the client incarnation of a call that
     -- was held, or by a Stale
-    abbrev pub wanted : ℕ → Past → ℕ
-    wanted troupe booted = 0
-    wanted troupe (followed p step (comes.Asked header body sender)) =
+    abbrev pub wanted_incarnation : ℕ → Past → ℕ
+    wanted_incarnation troupe booted = 0
+    wanted_incarnation troupe (followed p step (comes.Asked header body sender)) =
         if is_held p (record { header = header; body = body; sender = sender })
         && nat_eq troupe header.client
-        then max (wanted troupe p) header.client_incarnation
-        else wanted troupe p
-    wanted troupe (followed p step (comes.IsStale name server from incarnation)) =
-        if nat_eq troupe server then max (wanted troupe p) incarnation else wanted troupe p
-    wanted troupe (followed p step _) = wanted troupe p
+        then max (wanted_incarnation troupe p) header.client_incarnation
+        else wanted_incarnation troupe p
+    wanted_incarnation troupe (followed p step (comes.IsStale name server from incarnation)) =
+        if nat_eq troupe server then max (wanted_incarnation troupe p) incarnation else wanted_incarnation troupe p
+    wanted_incarnation troupe (followed p step _) = wanted_incarnation troupe p
 
     -- a view is to be looked up: it is below what is wanted, and no Lookup for it is unanswered
     abbrev pub is_due : (ℕ → Bool) → Past → ℕ → View → Bool
     is_due unanswered p troupe view =
-        nat_lt view.incarnation (wanted troupe p) && not (unanswered troupe)
+        nat_lt view.incarnation (wanted_incarnation troupe p) && not (unanswered troupe)
 
     -- the troupes of which that holds, from this one on
     abbrev pub due_from : (ℕ → Bool) → Past → ℕ → List View → List ℕ

@@ -75,7 +75,7 @@ pub fn words_say_what_they_mean()
 /// expected to say it and isn't down has said something, and all that was said is equal.
 pub fn unanimous_values_are_said_by_all<V: Eq>()
     ensures { (expected : V → List ℕ) (said : List (Arrival V)) (down : List ℕ) (place : ℕ)
-        → giving.given V.eq expected said kind.Unanimous down ≡ Some place
+        → giving.place_of_value V.eq expected said kind.Unanimous down ≡ Some place
         → IsUnanimous V.eq expected down said place }
 {}
 

@@ -12,7 +12,7 @@ use Rattle.circus_model.specs.declared.history.Run.{Run}
 use Rattle.circus_model.specs.NextTurn.{asks, ends}
 use Rattle.circus_model.specs.Behaviour.{Behaviour}
 use Rattle.circus_model.specs.Agree.{IsAt, Reaches, AreModules, Agree}
-use Rattle.circus_model.specs.Execution.{Thread, Order, Performed, store_state, count_call, noted, is_spent, next_order, ask_of, replies_of, run_of, record_run}
+use Rattle.circus_model.specs.Execution.{Thread, Order, Performed, store_state, count_call, note_run, is_spent, next_order, ask_of, replies_of, run_of, record_run}
 use Rattle.circus_model.specs.History.{runs_of, run_at, state_after, current_clock, clock_before, IsEarlier, FollowsTurns, IsMadeBy, IsAnswered, HasMaker}
 use Rattle.circus_model.proofs.Lookups.{grown, at_end, old_or_added}
 use Rattle.circus_model.proofs.Turning.{turns, IsUnderWay, IsCalling, IsEnding, IsPerformed}
@@ -194,7 +194,7 @@ module _ (program : List Behaviour) (agree : Agree program) (lawful : AreModules
         states = λ k e below at.
             let earlier : k < o.callee = omega (arith, below, call.earlier) in
             not_stored u.store o.callee k v (omega (arith, earlier)) ∙ h.states k e earlier at;
-        ends = λ k j run noted. earlier_then run.end u.clock _ (h.ends k j run noted) (count_rises u.clock c);
+        ends = λ k j run note_run. earlier_then run.end u.clock _ (h.ends k j run note_run) (count_rises u.clock c);
       }
     where
       inside : c < length u.clock
@@ -210,7 +210,7 @@ module _ (program : List Behaviour) (agree : Agree program) (lawful : AreModules
         store_still = λ k behind. stays k (omega (arith, behind, call.earlier)) (omega (arith, behind)) ∙ h.store_still k behind;
         ends = out.ends;
         asked = asked_more program main o b t u p.thread made ask out.counts.extends h.asked new;
-        origins = λ k j run noted. from_call k j (out.origins k j run noted);
+        origins = λ k j run note_run. from_call k j (out.origins k j run note_run);
       }
     where
       asked : Order
@@ -283,8 +283,8 @@ module _ (program : List Behaviour) (agree : Agree program) (lawful : AreModules
         logged = logged_more program main u.runs o.callee run inside h.logged new;
         states = λ k d below at. state k d below at (cases_eq k o.callee);
         store_still = λ k behind. not_stored u.store o.callee k v (omega (arith, behind)) ∙ h.store_still k behind;
-        ends = λ k j x noted. ends_before k j x noted (cases_eq k o.callee);
-        origins = λ k j x noted. origin k j x noted (cases_eq k o.callee);
+        ends = λ k j x note_run. ends_before k j x note_run (cases_eq k o.callee);
+        origins = λ k j x note_run. origin k j x note_run (cases_eq k o.callee);
       }
     where
       run : Run
@@ -326,8 +326,8 @@ module _ (program : List Behaviour) (agree : Agree program) (lawful : AreModules
           }
 
       earlier_run : (earlier : ℕ) (other : Run) → earlier < length (runs_of u.runs o.callee) → run_at after o.callee earlier ≡ Some other → run_at t.runs o.callee earlier ≡ Some other
-      earlier_run earlier other less noted =
-          elim (old_or_added (runs_of u.runs o.callee) run earlier other (rw there at noted)) [
+      earlier_run earlier other less note_run =
+          elim (old_or_added (runs_of u.runs o.callee) run earlier other (rw there at note_run)) [
             | inl old ↦ rw same at old
             | inr added ↦ absurd (omega (arith, added.0, less))
           ]
@@ -347,7 +347,7 @@ module _ (program : List Behaviour) (agree : Agree program) (lawful : AreModules
               with_asks = λ number ask there. (h.asked number ask there).grows;
               end = h.counts.clock;
             };
-            after_others = λ earlier other less noted. h.began.ends o.callee earlier other (earlier_run earlier other less noted);
+            after_others = λ earlier other less note_run. h.began.ends o.callee earlier other (earlier_run earlier other less note_run);
             root = h.began.root;
             reached = h.began.reached;
             numbered = λ no_root. h.began.counts.own no_root ∙ ap (λ (runs : List Run). length runs + 1) (sym same);
@@ -375,22 +375,22 @@ module _ (program : List Behaviour) (agree : Agree program) (lawful : AreModules
 
       -- a run of this module was there, or is the one that is noted
       own_or_old : (k j : ℕ) (x : Run) → run_at after k j ≡ Some x → k ≡ o.callee → (run_at u.runs k j ≡ Some x) ⊎ ((j ≡ length (runs_of u.runs o.callee)) × (run ≡ x))
-      own_or_old k j x noted here =
-          elim (old_or_added (runs_of u.runs o.callee) run j x (rw (here, there) at noted)) [
+      own_or_old k j x note_run here =
+          elim (old_or_added (runs_of u.runs o.callee) run j x (rw (here, there) at note_run)) [
             | inl old ↦ inl (rw here old)
             | inr added ↦ inr added
           ]
 
       ends_before : (k j : ℕ) (x : Run) → run_at after k j ≡ Some x → (k ≡ o.callee) ⊎ (k ≢ o.callee) → IsEarlier x.end u.clock
-      ends_before k j x noted (inl here) =
-          elim (own_or_old k j x noted here) [
+      ends_before k j x note_run (inl here) =
+          elim (own_or_old k j x note_run here) [
             | inl old ↦ h.ends k j x old
             | inr added ↦ rw (← added.1) (same_time u.clock)
           ]
-      ends_before k j x noted (inr other) = h.ends k j x (rw (runs-noted_elsewhere u.runs o.callee k run other) at noted)
+      ends_before k j x note_run (inr other) = h.ends k j x (rw (runs-noted_elsewhere u.runs o.callee k run other) at note_run)
 
       left : Thread
-      left = noted (store_state u o.callee v) o.callee run
+      left = note_run (store_state u o.callee v) o.callee run
 
       -- a run that was there before this one is noted
       from_before : (k j : ℕ) → Origin t u made k j → OriginOf o t left k j
@@ -411,13 +411,13 @@ module _ (program : List Behaviour) (agree : Agree program) (lawful : AreModules
           })
 
       origin : (k j : ℕ) (x : Run) → run_at after k j ≡ Some x → (k ≡ o.callee) ⊎ (k ≢ o.callee) → OriginOf o t left k j
-      origin k j x noted (inl here) =
-          elim (own_or_old k j x noted here) [
+      origin k j x note_run (inl here) =
+          elim (own_or_old k j x note_run here) [
             | inl old ↦ from_before k j (h.origins k j x old)
             | inr added ↦ own_run here (added.0 ∙ ap length same)
           ]
-      origin k j x noted (inr other) =
-          from_before k j (h.origins k j x (rw (runs-noted_elsewhere u.runs o.callee k run other) at noted))
+      origin k j x note_run (inr other) =
+          from_before k j (h.origins k j x (rw (runs-noted_elsewhere u.runs o.callee k run other) at note_run))
 
   pub logs_kept : IsKept program agree lawful (LogsIn program main) (Logs program main) (LogsOut program main)
   logs_kept =

@@ -20,7 +20,7 @@ use Rattle.circus_model.specs.NextTurn.{NextTurn, asks, ends}
 use Rattle.circus_model.specs.Lawful.{IsState, CanStart, ReplyFits, RepliesFit, IsLawful, procedure_numbered, import_of, arguments_fit, import_answers, outcome_fits, is_reported}
 use Rattle.circus_model.specs.Behaviour.{Behaviour}
 use Rattle.circus_model.specs.Agree.{IsAt, AreModules, Agree}
-use Rattle.circus_model.specs.Execution.{Thread, Order, Performed, store_state, count_call, noted, next_order, replies_of, record_run}
+use Rattle.circus_model.specs.Execution.{Thread, Order, Performed, store_state, count_call, note_run, next_order, replies_of, record_run}
 use Rattle.circus_model.specs.Seen.Ready.{IsThread, IsOrder}
 use Rattle.circus_model.proofs.Lookups.{found}
 
@@ -99,7 +99,7 @@ counted_thread program t place h =
       states = h.states;
     }
 
-pub noted_thread : (program : List Behaviour) (t : Thread) (place : ℕ) (run : Run) → IsThread program t → IsThread program (noted t place run)
+pub noted_thread : (program : List Behaviour) (t : Thread) (place : ℕ) (run : Run) → IsThread program t → IsThread program (note_run t place run)
 noted_thread program t place run h =
     record {
       store_length = h.store_length;

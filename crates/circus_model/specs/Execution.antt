@@ -46,8 +46,8 @@ abbrev pub count_call : Thread → ℕ → Thread
 count_call t m = record t { clock = slice_set t.clock m (slice_index t.clock m + 1) }
 
 -- the thread with one run more of the module
-abbrev pub noted : Thread → ℕ → Run → Thread
-noted t m run = record t { runs = slice_set t.runs m (slice_index_or t.runs m [] ++ run ∷ []) }
+abbrev pub note_run : Thread → ℕ → Run → Thread
+note_run t m run = record t { runs = slice_set t.runs m (slice_index_or t.runs m [] ++ run ∷ []) }
 
 -- a thread with this clock has made all its calls
 abbrev pub is_spent : List ℕ → Bool
@@ -119,7 +119,7 @@ run_of o entered f =
 
 -- the thread with that record, and what the caller gets
 abbrev pub record_run : Order → Thread → Finished → Performed
-record_run o entered f = record { thread = noted f.thread o.callee (run_of o entered f); outcome = f.outcome }
+record_run o entered f = record { thread = note_run f.thread o.callee (run_of o entered f); outcome = f.outcome }
 
 -- the turns of the ordered call
 abbrev pub turns_of : List Behaviour → Thread → Order → List Outcome → NextTurn

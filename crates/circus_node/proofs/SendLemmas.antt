@@ -17,7 +17,7 @@ use Rattle.circus_node.specs.declared.acting.Consequences.{Consequences}
 use Rattle.circus_node.specs.declared.station.Station.{Station}
 use Rattle.circus_node.specs.NodeState.{Acting, NodeState}
 use Rattle.circus_node.specs.Sending.{Sending, sent, spent, hand_over, next_handed, all_handed}
-use Rattle.circus_node.specs.Step.{Ended, IsEnded, end_step, conclude_step, ticked}
+use Rattle.circus_node.specs.Step.{Ended, IsEnded, end_step, conclude_step, tick_node}
 use Rattle.circus_node.specs.Seen.StationOf.{node_of, HasSent, IsConcluded, HasTicked, IsTicked}
 use Rattle.circus_node.specs.Seen.Sent.{IsHanded}
 
@@ -86,11 +86,11 @@ ticked_with acting gives hs d e w v n m ss ts ds es given deployment wire droppe
     ∙ ap (λ x. node_with x acting hs d n ss ds) wire
     ∙ same_parts v acting hs d e n m ss ts ds es deployment dropped suspects differences
 
-pub ticked_is : {M : Type 0} (s : Station) (acting : Acting M) (r : Station × Outputs) → HasTicked s r → ticked (node_of s acting) ≡ Ok (node_of r.0 acting, r.1)
+pub ticked_is : {M : Type 0} (s : Station) (acting : Acting M) (r : Station × Outputs) → HasTicked s r → tick_node (node_of s acting) ≡ Ok (node_of r.0 acting, r.1)
 ticked_is s acting r h =
     ticked_with acting _ _ _ _ _ _ _ _ _ _ _ _ (sym h.gives) (sym h.deployment) (sym h.wire) (sym h.dropped) (sym h.suspects) (sym h.differences)
 
-pub ticked_fault : {M : Type 0} (s : Station) (acting : Acting M) (f : StepFault) → IsTicked (Err f) s → IsEnded (Err f) (ticked (node_of s acting))
+pub ticked_fault : {M : Type 0} (s : Station) (acting : Acting M) (f : StepFault) → IsTicked (Err f) s → IsEnded (Err f) (tick_node (node_of s acting))
 ticked_fault s acting (fault.Spent node) is = absurd is
 ticked_fault s acting fault.NoMemory is = tt
 

@@ -38,8 +38,8 @@ module _ {M : Type 0} where
   conclude_step n gives came = end_step n came (all_handed (sent n.wire gives) came.effects)
 
   -- a tick touches the pairs alone
-  abbrev pub ticked : NodeState M → Ended M
-  ticked n =
+  abbrev pub tick_node : NodeState M → Ended M
+  tick_node n =
       Ok (record n { wire = all_ticked n.wire }, record { gives = flat_map gives_of (sent_by_tick n.wire); suspects = suspected_by_tick n.wire; differences = [] })
 
   -- this is what a step comes to, but for want of memory
@@ -57,8 +57,8 @@ module _ {M : Type 0} where
 
 module _ {M : Type 0} (declared : M → Signature) (turn : M → List ValueTree → ℕ → List ValueTree → List Outcome → NextTurn) where
   -- a datagram of a node comes: first its acknowledgement and the calls that the window lets go, then what is made of it
-  abbrev pub received : ℕ → ℕ → Result Piece SegmentFault → NodeState M → Ended M
-  received at from segment n =
+  abbrev pub take_datagram : ℕ → ℕ → Result Piece SegmentFault → NodeState M → Ended M
+  take_datagram at from segment n =
       let made = hears declared turn n.deployment at from (heard_from n.wire from segment) n.acting in
       conclude_step (record n { wire = after_datagram n.wire from segment; acting = made.acting })
       (gives_of (sent_by_datagram n.wire from segment)) made.came
@@ -75,7 +75,7 @@ module _ {M : Type 0} (declared : M → Signature) (turn : M → List ValueTree 
       conclude_step (record n { acting = made.acting }) [] made.came
 
   abbrev pub step_node : ℕ → Event → NodeState M → Ended M
-  step_node at (Datagram from bytes) n = received at from (reading bytes) n
-  step_node at Tick n = ticked n
+  step_node at (Datagram from bytes) n = take_datagram at from (reading bytes) n
+  step_node at Tick n = tick_node n
   step_node at (Down node) n = declare_down at node n
   step_node at Join n = join_troupe at n

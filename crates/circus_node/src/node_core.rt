@@ -197,7 +197,7 @@ impl<M: Module> NodeCore<M> {
     fn receive(self, at: u64, from: u16, bytes: &Bytes) -> Result<(Self, Outputs), StepFault>
         requires { IsOther self.wire from }
         ensures ended { step.IsEnded result
-            (step.received M.declared M.turn at from (reading bytes.now) self) }
+            (step.take_datagram M.declared M.turn at from (reading bytes.now) self) }
         ensures rest { IfOk result (λ stepped. MemberHasGoneOn stepped.0.acting) }
     {
         let NodeCore {
@@ -212,7 +212,7 @@ impl<M: Module> NodeCore<M> {
 
     // A tick touches the pairs alone.
     fn tick(self) -> Result<(Self, Outputs), StepFault>
-        ensures ended { step.IsEnded result (step.ticked self) }
+        ensures ended { step.IsEnded result (step.tick_node self) }
         ensures rest { IfOk result (λ ticked. MemberHasGoneOn ticked.0.acting) }
     {
         let NodeCore { station, acting } = self;

@@ -12,7 +12,7 @@ use Rattle.circus_pair.specs.Taken.{is_of, first_of, total_in, count_in, is_reac
 use Rattle.circus_pair.specs.Acts.{Act, Call, Return, Came, Acts, none_yet, more, end_after, with_taken, taken_by, arrives_by, arrival_by}
 use Rattle.circus_pair.specs.Handed.{calls_made, call_at, return_at}
 use Rattle.circus_pair.specs.Lawful.{MayFollow, AreLawful}
-use Rattle.circus_pair.specs.TwoEnds.{sent_by, arrival_of, Arrival, noted, arrived_in, handed_over}
+use Rattle.circus_pair.specs.TwoEnds.{sent_by, arrival_of, Arrival, arrivals_of, arrived_in, handed_over}
 use Rattle.circus_pair.proofs.Arrivals.{arrived_other}
 use Rattle.circus_pair.proofs.Standing.{Stands, may_follow, arrival_is}
 use Rattle.circus_pair.proofs.Handing.{format_stays}
@@ -217,8 +217,8 @@ counted_more s ts arrived message now before once kind call =
     plus_none : (n : ℕ) → n + 0 ≡ n
     plus_none n = omega arith
 
-pub noted_is : (s : Piece) (message : List ℕ) → IsSegment s → noted (cond (eqb s.kind 0) (ArrivedCall s.call message) (ArrivedReturn s.call message)) ≡ (record { kind = s.kind; call = s.call; message = message }) ∷ []
-noted_is s message segment = elim (eqb s.kind 0) as (λ b. eqb s.kind 0 ≡ b → noted (cond b (ArrivedCall s.call message) (ArrivedReturn s.call message)) ≡ (record { kind = s.kind; call = s.call; message = message }) ∷ []) [
+pub noted_is : (s : Piece) (message : List ℕ) → IsSegment s → arrivals_of (cond (eqb s.kind 0) (ArrivedCall s.call message) (ArrivedReturn s.call message)) ≡ (record { kind = s.kind; call = s.call; message = message }) ∷ []
+noted_is s message segment = elim (eqb s.kind 0) as (λ b. eqb s.kind 0 ≡ b → arrivals_of (cond b (ArrivedCall s.call message) (ArrivedReturn s.call message)) ≡ (record { kind = s.kind; call = s.call; message = message }) ∷ []) [
   | true ↦ λ call. ap (λ (k : ℕ). let a : List Arrival = record { kind = k; call = s.call; message = message } ∷ [] in a) (sym (eqb-true s.kind 0 call))
   | false ↦ λ return_. (let le : s.kind ≤ 1 = segment.kind in let ne : s.kind ≡ 0 → ⊥ = eqb-false s.kind 0 return_ in let one : 1 ≡ s.kind = omega arith in ap (λ (k : ℕ). let a : List Arrival = record { kind = k; call = s.call; message = message } ∷ [] in a) one)
 ] refl
@@ -234,9 +234,9 @@ arrives_as_handed format acts ots ts e s stands h plain whole said heard = go (h
         ap (λ (x : List ℕ). Some x) (sym (ap (message_in (s ∷ ts) s.kind s.call) is.total ∙ sent.1))
 
 -- a segment that is taken
-hears_taken : (format : ℕ) (ts : List Piece) (arrived : List Arrival) (acts : Acts) (ots : List Piece) (e : Exchange) (s : Piece) → Stands ts e → takes e s ≡ true → (has_arrived ts s.kind s.call ≡ true → has_arrived (s ∷ ts) s.kind s.call ≡ true) → IsSaid 0 format acts ots s → Hears format ts arrived acts ots → Hears format (s ∷ ts) (arrived ++ noted (arrival_by ts s)) acts ots
+hears_taken : (format : ℕ) (ts : List Piece) (arrived : List Arrival) (acts : Acts) (ots : List Piece) (e : Exchange) (s : Piece) → Stands ts e → takes e s ≡ true → (has_arrived ts s.kind s.call ≡ true → has_arrived (s ∷ ts) s.kind s.call ≡ true) → IsSaid 0 format acts ots s → Hears format ts arrived acts ots → Hears format (s ∷ ts) (arrived ++ arrivals_of (arrival_by ts s)) acts ots
 hears_taken format ts arrived acts ots e s stands h up said hears =
-    elim (arrives_by ts s) as (λ b. arrives_by ts s ≡ b → Hears format (s ∷ ts) (arrived ++ noted (cond b (cond (eqb s.kind 0) (ArrivedCall s.call (message_in (s ∷ ts) s.kind s.call s.total)) (ArrivedReturn s.call (message_in (s ∷ ts) s.kind s.call s.total))) Nothing)) acts ots) [
+    elim (arrives_by ts s) as (λ b. arrives_by ts s ≡ b → Hears format (s ∷ ts) (arrived ++ arrivals_of (cond b (cond (eqb s.kind 0) (ArrivedCall s.call (message_in (s ∷ ts) s.kind s.call s.total)) (ArrivedReturn s.call (message_in (s ∷ ts) s.kind s.call s.total))) Nothing)) acts ots) [
       | true ↦ λ whole. (
           let a = both_true (not (is_acknowledgement s)) _ whole in
           let b = both_true (has_arrived (s ∷ ts) s.kind s.call) _ a.1 in
@@ -256,11 +256,11 @@ hears_taken format ts arrived acts ots e s stands h up said hears =
 pub dropped : (e : Exchange) (s : Piece) → takes e s ≡ false → arrived_after e s ≡ Nothing
 dropped e s h = ap (λ b. cond (b && not (is_acknowledgement s)) (arrived_of_taken e s) Nothing) h
 
-hears_came : (format : ℕ) (ts : List Piece) (arrived : List Arrival) (acts : Acts) (ots : List Piece) (e : Exchange) (s : Piece) → Stands ts e → (has_arrived ts s.kind s.call ≡ true → has_arrived (cond (takes e s) (s ∷ ts) ts) s.kind s.call ≡ true) → IsSaid 0 format acts ots s → Hears format ts arrived acts ots → Hears format (cond (takes e s) (s ∷ ts) ts) (arrived ++ noted (arrived_after e s)) acts ots
+hears_came : (format : ℕ) (ts : List Piece) (arrived : List Arrival) (acts : Acts) (ots : List Piece) (e : Exchange) (s : Piece) → Stands ts e → (has_arrived ts s.kind s.call ≡ true → has_arrived (cond (takes e s) (s ∷ ts) ts) s.kind s.call ≡ true) → IsSaid 0 format acts ots s → Hears format ts arrived acts ots → Hears format (cond (takes e s) (s ∷ ts) ts) (arrived ++ arrivals_of (arrived_after e s)) acts ots
 hears_came format ts arrived acts ots e s stands up said hears =
-    elim (takes e s) as (λ b. takes e s ≡ b → (has_arrived ts s.kind s.call ≡ true → has_arrived (cond b (s ∷ ts) ts) s.kind s.call ≡ true) → Hears format (cond b (s ∷ ts) ts) (arrived ++ noted (arrived_after e s)) acts ots) [
-      | true ↦ λ h rises. subst (λ x. Hears format (s ∷ ts) (arrived ++ noted x) acts ots) (sym (arrival_is ts e s stands said.segment h)) (hears_taken format ts arrived acts ots e s stands h rises said hears)
-      | false ↦ λ h rises. subst (λ x. Hears format ts (arrived ++ noted x) acts ots) (sym (dropped e s h)) (hears_still format ts arrived acts ots hears)
+    elim (takes e s) as (λ b. takes e s ≡ b → (has_arrived ts s.kind s.call ≡ true → has_arrived (cond b (s ∷ ts) ts) s.kind s.call ≡ true) → Hears format (cond b (s ∷ ts) ts) (arrived ++ arrivals_of (arrived_after e s)) acts ots) [
+      | true ↦ λ h rises. subst (λ x. Hears format (s ∷ ts) (arrived ++ arrivals_of x) acts ots) (sym (arrival_is ts e s stands said.segment h)) (hears_taken format ts arrived acts ots e s stands h rises said hears)
+      | false ↦ λ h rises. subst (λ x. Hears format ts (arrived ++ arrivals_of x) acts ots) (sym (dropped e s h)) (hears_still format ts arrived acts ots hears)
     ] refl up
 
 -- what comes is what the other end says
@@ -268,7 +268,7 @@ abbrev pub IsHeard : ℕ → Acts → List Piece → Act → Type 0
 IsHeard format acts ots (Came s) = IsSaid 0 format acts ots s
 IsHeard format acts ots act = Unit {0}
 
-hears_act : (format : ℕ) (own_acts : Acts) (ts : List Piece) (arrived : List Arrival) (acts : Acts) (ots : List Piece) (e : Exchange) (act : Act) → Stands ts e → Grows 0 own_acts (more own_acts act) ts (with_taken e act ts) → IsHeard format acts ots act → Hears format ts arrived acts ots → Hears format (with_taken e act ts) (arrived ++ noted (arrival_of e act)) acts ots
+hears_act : (format : ℕ) (own_acts : Acts) (ts : List Piece) (arrived : List Arrival) (acts : Acts) (ots : List Piece) (e : Exchange) (act : Act) → Stands ts e → Grows 0 own_acts (more own_acts act) ts (with_taken e act ts) → IsHeard format acts ots act → Hears format ts arrived acts ots → Hears format (with_taken e act ts) (arrived ++ arrivals_of (arrival_of e act)) acts ots
 hears_act format own_acts ts arrived acts ots e (Came s) stands grows is hears = hears_came format ts arrived acts ots e s stands (arrived_grows 0 own_acts (more own_acts (Came s)) ts _ grows s.kind s.call) is hears
 hears_act format own_acts ts arrived acts ots e act stands grows is hears = hears_still format ts arrived acts ots hears
 

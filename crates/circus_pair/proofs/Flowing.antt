@@ -11,7 +11,7 @@ use Rattle.circus_segment.specs.Cut.{segment_count}
 use Rattle.circus_exchange.specs.Inbox.{add_segment}
 use Rattle.std.specs.FinMap.{len}
 use Rattle.circus_exchange.specs.Outbox.{whole_by, becomes_whole, hand_over}
-use Rattle.circus_exchange.specs.Exchange.{start, send_call, send_return, takes, was_sent, sends_at_once, let_go, lets_go, in_flight_after, call_reached, return_reached, total_of, end_call, return_added, after_taken, after, ticked}
+use Rattle.circus_exchange.specs.Exchange.{start, send_call, send_return, takes, was_sent, sends_at_once, let_go, lets_go, in_flight_after, call_reached, return_reached, total_of, end_call, return_added, after_taken, after, count_tick}
 use Rattle.circus_pair.specs.Taken.{is_of, total_in}
 use Rattle.circus_pair.specs.Acts.{Act, Call, Return, Came, Tick, Stop, Acts, none_yet, more, end_after, taken_by}
 use Rattle.circus_pair.specs.Handed.{calls_made, call_at, says, reached_in, sent_below}
@@ -394,7 +394,7 @@ flows_start first format = record {
 
 -- what an act lets go, after a lawful list of acts
 moves_act : (first format : ℕ) (acts : Acts) (act : Act) → AreLawful first format (more acts act) → Flows 64 first acts (taken_by (start first format) acts) (end_after (start first format) acts) → Moves first (more acts act) (taken_by (start first format) (more acts act)) (end_after (start first format) acts).sent (end_after (start first format) (more acts act))
-unfolding calls_made call_at send_return ticked
+unfolding calls_made call_at send_return count_tick
 moves_act first format acts (Call message) lawful flows = moves_called first acts _ _ message (hands_lawful first format acts lawful.0) flows lawful.1.0.0 lawful.1.2
 moves_act first format acts (Return call message) lawful flows = record { flows = flows_same 64 first acts (Return call message) _ _ _ refl refl refl (λ up. up) flows.stopped refl (λ q. refl) flows; goes = inl refl }
 moves_act first format acts (Came s) lawful flows = moves_came first acts _ _ s (hands_lawful first format acts lawful.0) (stands_lawful first format acts lawful.0) (kept_after first format acts lawful.0) flows lawful.1

@@ -5,7 +5,7 @@ use Rattle.circus_exchange.specs.declared.exchange.Exchange.{Exchange}
 use Rattle.circus_exchange.specs.declared.taken.Arrived.TheVariants.{Nothing}
 use Rattle.circus_segment.specs.Segment.{Piece, IsSegment}
 use Rattle.circus_exchange.specs.Limits.{never_used}
-use Rattle.circus_exchange.specs.Exchange.{start, IsSendable, send_call, send_return, takes, after, arrived_after, ticked, awaits_return, is_suspect, datagrams_of_call, datagrams_of_return, datagrams_after, datagrams_of_tick}
+use Rattle.circus_exchange.specs.Exchange.{start, IsSendable, send_call, send_return, takes, after, arrived_after, count_tick, awaits_return, is_suspect, datagrams_of_call, datagrams_of_return, datagrams_after, datagrams_of_tick}
 use Rattle.circus_pair.specs.Taken.{has_arrived}
 use Rattle.circus_pair.specs.Acts.{Call, Return, Came, Tick, Acts, none_yet, more, end_after, taken_by, arrival_by}
 use Rattle.circus_pair.specs.Handed.{calls_made, return_at}
@@ -107,8 +107,8 @@ module _ (pair : Exchange) (first format : ℕ) (acts : Acts) (stands : StandsFo
 
   -- ---- a tick, and a stop
 
-  pub stands_ticked : (new : Exchange) → pair.stopped ≡ false → new ≡ ticked pair → StandsFor new first format (more acts Tick)
-  stands_ticked new up is = record { lawful = (stands.lawful, sym down_is ∙ up); is = is ∙ ap ticked stands.is }
+  pub stands_ticked : (new : Exchange) → pair.stopped ≡ false → new ≡ count_tick pair → StandsFor new first format (more acts Tick)
+  stands_ticked new up is = record { lawful = (stands.lawful, sym down_is ∙ up); is = is ∙ ap count_tick stands.is }
 
   pub ticked_owes : datagrams_of_tick pair ≡ outputs (start first format) acts Tick
   ticked_owes = ap datagrams_of_tick stands.is ∙ tick_sends first format acts stands.lawful

@@ -10,7 +10,7 @@ use Rattle.circus_segment.specs.Segment.{Piece, is_acknowledgement}
 use Rattle.circus_segment.specs.Cut.{segment_count}
 use Rattle.circus_exchange.specs.Outbox.{hand_over, raise_progress, acknowledge_up_to, drop_bytes, forget_message, becomes_whole}
 use Rattle.circus_exchange.specs.Inbox.{add_segment}
-use Rattle.circus_exchange.specs.Exchange.{start, send_call, send_return, is_whole, awaits_return, takes, let_go, lets_go, call_reached, return_reached, end_call, return_added, total_of, after_taken, after, ticked}
+use Rattle.circus_exchange.specs.Exchange.{start, send_call, send_return, is_whole, awaits_return, takes, let_go, lets_go, call_reached, return_reached, end_call, return_added, total_of, after_taken, after, count_tick}
 use Rattle.circus_pair.specs.Seen.Fresh.{IsFresh}
 use Rattle.circus_exchange.proofs.Ties.{other_key}
 
@@ -51,8 +51,8 @@ pub fresh_returned : (e : Exchange) (call : ℕ) (m : List ℕ) → IsFresh e �
 unfolding send_return
 fresh_returned e call m h = h
 
-pub fresh_ticked : (e : Exchange) → IsFresh e → IsFresh (ticked e)
-unfolding ticked
+pub fresh_ticked : (e : Exchange) → IsFresh e → IsFresh (count_tick e)
+unfolding count_tick
 fresh_ticked e h = h
 
 choice : (b : Bool) (x y : Exchange) → IsFresh x → IsFresh y → IsFresh (cond b x y)

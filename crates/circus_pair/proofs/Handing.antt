@@ -13,7 +13,7 @@ use Rattle.circus_segment.specs.Segment.{Piece, IsSegment, is_acknowledgement}
 use Rattle.circus_segment.specs.Cut.{segment_count}
 use Rattle.circus_exchange.specs.Inbox.{fits, progress_so_far, add_segment}
 use Rattle.circus_exchange.specs.Outbox.{has_total, agrees, hand_over, raise_progress, acknowledge_up_to, becomes_whole, drop_bytes, forget_message}
-use Rattle.circus_exchange.specs.Exchange.{start, send_call, send_return, is_whole, awaits_return, takes, was_sent, call_reached, return_reached, total_or_none, total_of, end_call, return_added, after_taken, after, ticked}
+use Rattle.circus_exchange.specs.Exchange.{start, send_call, send_return, is_whole, awaits_return, takes, was_sent, call_reached, return_reached, total_or_none, total_of, end_call, return_added, after_taken, after, count_tick}
 use Rattle.circus_pair.specs.Taken.{total_in}
 use Rattle.circus_pair.specs.Acts.{Act, Call, Return, Came, Tick, Stop, Acts, none_yet, more, happens, end_after, taken_by, AreActs}
 use Rattle.circus_pair.specs.Handed.{calls_made, call_at, return_at, says, reached_in, agrees_with, fits_with, sent_below, is_taken, ReturnsOnce}
@@ -310,8 +310,8 @@ hands_returned first acts ts e call message hands once =
       later = hands.later;
     }
 
-hands_ticked : (first : ℕ) (acts : Acts) (ts : List Piece) (e : Exchange) → Hands first acts ts e → Hands first (more acts Tick) ts (ticked e)
-unfolding calls_made call_at return_at ticked
+hands_ticked : (first : ℕ) (acts : Acts) (ts : List Piece) (e : Exchange) → Hands first acts ts e → Hands first (more acts Tick) ts (count_tick e)
+unfolding calls_made call_at return_at count_tick
 hands_ticked first acts ts e hands = record { next = hands.next; calls = hands.calls; returns = hands.returns; no_call = hands.no_call; no_return = hands.no_return; later = hands.later }
 
 hands_stopped : (first : ℕ) (acts : Acts) (ts : List Piece) (e : Exchange) → Hands first acts ts e → Hands first (more acts Stop) ts (happens e Stop)

@@ -14,7 +14,7 @@ use Rattle.circus_segment.specs.Segment.{Piece, IsSegment, is_acknowledgement}
 use Rattle.circus_segment.specs.Cut.{segment_count}
 use Rattle.circus_exchange.specs.Inbox.{completes, add_segment}
 use Rattle.circus_exchange.specs.Outbox.{has_total, agrees, hand_over, whole_by, becomes_whole, acknowledge_up_to, drop_bytes, forget_message}
-use Rattle.circus_exchange.specs.Exchange.{start, send_call, send_return, takes, call_reached, return_reached, total_of, end_call, return_added, after_taken, after, ticked}
+use Rattle.circus_exchange.specs.Exchange.{start, send_call, send_return, takes, call_reached, return_reached, total_of, end_call, return_added, after_taken, after, count_tick}
 use Rattle.circus_pair.specs.Taken.{is_of, total_in, has_arrived, is_reached, count_in}
 use Rattle.circus_pair.specs.Acts.{Call, Return, Came, Tick, Stop, Acts, none_yet, more, happens, end_after, taken_by, AreActs}
 use Rattle.circus_pair.specs.Handed.{calls_made, call_at, return_at, says, reached_in, agrees_with, ReturnsOnce}
@@ -458,8 +458,8 @@ kept_returned first acts ts e call message hands kept full once =
       no_call = kept.no_call;
     }
 
-kept_ticked : (first : ℕ) (acts : Acts) (ts : List Piece) (e : Exchange) → Kept first acts ts e → Kept first (more acts Tick) ts (ticked e)
-unfolding call_at return_at ticked
+kept_ticked : (first : ℕ) (acts : Acts) (ts : List Piece) (e : Exchange) → Kept first acts ts e → Kept first (more acts Tick) ts (count_tick e)
+unfolding call_at return_at count_tick
 kept_ticked first acts ts e kept = record { calls = kept.calls; returns = kept.returns; calls_within = kept.calls_within; returns_within = kept.returns_within; no_call = kept.no_call }
 
 kept_stopped : (first : ℕ) (acts : Acts) (ts : List Piece) (e : Exchange) → Kept first acts ts e → Kept first (more acts Stop) ts (happens e Stop)

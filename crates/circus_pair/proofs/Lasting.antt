@@ -3,7 +3,7 @@ use Rattle.std.proofs.Common.{◌≡◌, ℕ, List, [], Result, Ok, Err, refl, a
 use Rattle.std.specs.Prelude.{OnOk, OnErr}
 use Rattle.circus_exchange.specs.declared.exchange.Exchange.{Exchange}
 use Rattle.circus_segment.specs.Segment.{Piece}
-use Rattle.circus_exchange.specs.Exchange.{send_call, send_return, after, ticked}
+use Rattle.circus_exchange.specs.Exchange.{send_call, send_return, after, count_tick}
 use Rattle.circus_pair.proofs.Taking.{by_taken, taken_lasts}
 
 pub record Lasts (old new : Exchange) : Type 0 where
@@ -21,8 +21,8 @@ pub lasts_returned : (e : Exchange) (call : ℕ) (m : List ℕ) → Lasts e (sen
 unfolding send_return
 lasts_returned e call m = record { format = refl; stopped = refl }
 
-pub lasts_ticked : (e : Exchange) → Lasts e (ticked e)
-unfolding ticked
+pub lasts_ticked : (e : Exchange) → Lasts e (count_tick e)
+unfolding count_tick
 lasts_ticked e = record { format = refl; stopped = refl }
 
 -- whichever way a call ends, of a pair seen as an end

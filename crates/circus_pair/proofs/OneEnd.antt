@@ -15,7 +15,7 @@ use Rattle.circus_pair.specs.Handed.{call_at, return_at}
 use Rattle.circus_pair.specs.Lawful.{is_stopped_after, MayFollow, AreLawful}
 use Rattle.circus_pair.specs.Window.{is_open, count_below, may_go}
 use Rattle.circus_pair.specs.Sending.{is_sent, let_go_by, whole_call}
-use Rattle.circus_pair.specs.TwoEnds.{Arrival, arrived_in, noted}
+use Rattle.circus_pair.specs.TwoEnds.{Arrival, arrived_in, arrivals_of}
 use Rattle.circus_pair.proofs.Dialogue.{is_this, one_if, both_true, not_true, no_arrival, counted_more, noted_is, dropped}
 use Rattle.circus_pair.proofs.Growing.{Grows, IsFirst, grows_act, arrived_grows}
 use Rattle.circus_pair.proofs.Handing.{awaits_is}
@@ -86,10 +86,10 @@ Once ts arrived = (kind call : ℕ) → count_by (is_this kind call) arrived ≡
 once_still : (ts : List Piece) (arrived : List Arrival) → Once ts arrived → Once ts (arrived ++ [])
 once_still ts arrived once = subst (λ xs. Once ts xs) (sym (append-nil arrived)) once
 
-once_taken : (ts : List Piece) (arrived : List Arrival) (s : Piece) → IsSegment s → (has_arrived ts s.kind s.call ≡ true → has_arrived (s ∷ ts) s.kind s.call ≡ true) → Once ts arrived → Once (s ∷ ts) (arrived ++ noted (arrival_by ts s))
+once_taken : (ts : List Piece) (arrived : List Arrival) (s : Piece) → IsSegment s → (has_arrived ts s.kind s.call ≡ true → has_arrived (s ∷ ts) s.kind s.call ≡ true) → Once ts arrived → Once (s ∷ ts) (arrived ++ arrivals_of (arrival_by ts s))
 once_taken ts arrived s segment up once =
     let message = message_in (s ∷ ts) s.kind s.call s.total in
-    elim (arrives_by ts s) as (λ b. arrives_by ts s ≡ b → Once (s ∷ ts) (arrived ++ noted (cond b (cond (eqb s.kind 0) (ArrivedCall s.call message) (ArrivedReturn s.call message)) Nothing))) [
+    elim (arrives_by ts s) as (λ b. arrives_by ts s ≡ b → Once (s ∷ ts) (arrived ++ arrivals_of (cond b (cond (eqb s.kind 0) (ArrivedCall s.call message) (ArrivedReturn s.call message)) Nothing))) [
       | true ↦ λ whole. (
           let a = both_true (not (is_acknowledgement s)) _ whole in
           let b = both_true (has_arrived (s ∷ ts) s.kind s.call) _ a.1 in
@@ -97,11 +97,11 @@ once_taken ts arrived s segment up once =
       | false ↦ λ none. once_still (s ∷ ts) arrived (λ kind call. once kind call ∙ ap one_if (no_arrival s ts up none kind call))
     ] refl
 
-once_came : (ts : List Piece) (arrived : List Arrival) (e : Exchange) (s : Piece) → Stands ts e → IsSegment s → (has_arrived ts s.kind s.call ≡ true → has_arrived (cond (takes e s) (s ∷ ts) ts) s.kind s.call ≡ true) → Once ts arrived → Once (cond (takes e s) (s ∷ ts) ts) (arrived ++ noted (arrived_after e s))
+once_came : (ts : List Piece) (arrived : List Arrival) (e : Exchange) (s : Piece) → Stands ts e → IsSegment s → (has_arrived ts s.kind s.call ≡ true → has_arrived (cond (takes e s) (s ∷ ts) ts) s.kind s.call ≡ true) → Once ts arrived → Once (cond (takes e s) (s ∷ ts) ts) (arrived ++ arrivals_of (arrived_after e s))
 once_came ts arrived e s stands segment up once =
-    elim (takes e s) as (λ b. takes e s ≡ b → (has_arrived ts s.kind s.call ≡ true → has_arrived (cond b (s ∷ ts) ts) s.kind s.call ≡ true) → Once (cond b (s ∷ ts) ts) (arrived ++ noted (arrived_after e s))) [
-      | true ↦ λ h rises. subst (λ x. Once (s ∷ ts) (arrived ++ noted x)) (sym (arrival_is ts e s stands segment h)) (once_taken ts arrived s segment rises once)
-      | false ↦ λ h rises. subst (λ x. Once ts (arrived ++ noted x)) (sym (dropped e s h)) (once_still ts arrived once)
+    elim (takes e s) as (λ b. takes e s ≡ b → (has_arrived ts s.kind s.call ≡ true → has_arrived (cond b (s ∷ ts) ts) s.kind s.call ≡ true) → Once (cond b (s ∷ ts) ts) (arrived ++ arrivals_of (arrived_after e s))) [
+      | true ↦ λ h rises. subst (λ x. Once (s ∷ ts) (arrived ++ arrivals_of x)) (sym (arrival_is ts e s stands segment h)) (once_taken ts arrived s segment rises once)
+      | false ↦ λ h rises. subst (λ x. Once ts (arrived ++ arrivals_of x)) (sym (dropped e s h)) (once_still ts arrived once)
     ] refl up
 
 -- each message arrives at most once

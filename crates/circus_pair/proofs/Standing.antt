@@ -9,7 +9,7 @@ use Rattle.circus_exchange.specs.declared.taken.Arrived.{Arrived}
 use Rattle.circus_exchange.specs.declared.taken.Arrived.TheVariants.{Nothing, ArrivedCall, ArrivedReturn}
 use Rattle.circus_segment.specs.Segment.{Piece, IsSegment, is_acknowledgement, spelling}
 use Rattle.circus_exchange.specs.Inbox.{progress_so_far, fits, completes, data_up_to, data_with, is_new, count_with, acknowledgement_for, acknowledgement, add_segment}
-use Rattle.circus_exchange.specs.Exchange.{start, send_call, send_return, takes, call_reached, return_reached, end_call, return_added, after_taken, after, arrived_of_taken, arrived_after, ticked}
+use Rattle.circus_exchange.specs.Exchange.{start, send_call, send_return, takes, call_reached, return_reached, end_call, return_added, after_taken, after, arrived_of_taken, arrived_after, count_tick}
 use Rattle.circus_pair.specs.Taken.{is_of, total_in, count_in, has_arrived, message_in, IsTotal, MayFollow, AreTaken}
 use Rattle.circus_pair.specs.Acts.{Act, Came, Acts, none_yet, more, happens, end_after, with_taken, taken_by, IsAct, AreActs, arrival_by, acknowledged_by}
 use Rattle.circus_pair.proofs.Arrivals.{Keeps, told, keeps_nothing, keeps_other, keeps_more, completes_is, count_is, message_is}
@@ -111,7 +111,7 @@ same_boxes ts e f calls returns stands = record {
 }
 
 stands_act : (ts : List Piece) (e : Exchange) (act : Act) → Stands ts e → IsAct act → Stands (with_taken e act ts) (happens e act)
-unfolding send_call send_return ticked
+unfolding send_call send_return count_tick
 stands_act ts e (Came s) stands is = stands_came ts e s stands is
 stands_act ts e act stands is = same_boxes ts e _ refl refl stands
 

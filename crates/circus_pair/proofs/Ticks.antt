@@ -7,7 +7,7 @@ use Rattle.std.specs.FinMap.{FinMap, nat_cmp-IsAntisymmetric, get, len, empty, e
 use Rattle.std.proofs.lemmas.Bool.{eqb-true, eq-eqb, ne_eqb, lt-ltb, le-ltb, cases_lt}
 use Rattle.circus_exchange.specs.declared.exchange.Exchange.{Exchange}
 use Rattle.circus_segment.specs.Segment.{Piece}
-use Rattle.circus_exchange.specs.Exchange.{start, send_call, send_return, takes, after_taken, is_waiting, ticked, is_suspect}
+use Rattle.circus_exchange.specs.Exchange.{start, send_call, send_return, takes, after_taken, is_waiting, count_tick, is_suspect}
 use Rattle.circus_pair.specs.Taken.{has_arrived}
 use Rattle.circus_pair.specs.Acts.{Call, Came, Tick, Acts, none_yet, more, end_after, taken_by}
 use Rattle.circus_pair.specs.Handed.{calls_made, call_at, reached_in}
@@ -65,7 +65,7 @@ ticks_came e s true ticks is same = ap (λ b. (cond b (after_taken e s) e).ticks
 ticks_came e s false ticks is same = ap (λ b. (cond b (after_taken e s) e).ticks) is ∙ same
 
 pub ticks_are : (first format : ℕ) (acts : Acts) → AreLawful first format acts → (end_after (start first format) acts).ticks ≡ ticks_after (start first format) acts
-unfolding ticks_after send_call send_return ticked
+unfolding ticks_after send_call send_return count_tick
 ticks_are first format none_yet lawful = refl
 ticks_are first format (more acts (Call message)) lawful =
     let b = start first format in

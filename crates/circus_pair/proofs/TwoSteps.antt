@@ -10,7 +10,7 @@ use Rattle.circus_pair.specs.declared.two_ends.Act.TheVariants.{Call, Return, De
 use Rattle.circus_pair.specs.Acts.{Act as OneAct, Acts}
 use Rattle.circus_pair.proofs.Handing.{format_act}
 use Rattle.circus_exchange.specs.Exchange.{start}
-use Rattle.circus_pair.specs.TwoEnds.{History, then_came, act_at, with_act, acts_of, sent_by, noted, arrived_by, arrived_in, arrived_at, End, Both, end_at, end_of, both_after, move_end, step_both, arrives, acting_end}
+use Rattle.circus_pair.specs.TwoEnds.{History, then_came, act_at, with_act, acts_of, sent_by, arrivals_of, arrived_by, arrived_in, arrived_at, End, Both, end_at, end_of, both_after, move_end, step_both, arrives, acting_end}
 
 -- ---- both ends after an act more
 
@@ -50,7 +50,7 @@ format_more (Err x) old new act ok err end = ap (λ (both : Both). (end_at both 
 
 -- ---- what arrives by it
 
-arrived_more : (e : Exchange) (acts : Acts) (act : Option OneAct) → arrived_in e (with_act acts act) ≡ arrived_in e acts ++ noted (arrived_by (end_of e acts).exchange act)
+arrived_more : (e : Exchange) (acts : Acts) (act : Option OneAct) → arrived_in e (with_act acts act) ≡ arrived_in e acts ++ arrivals_of (arrived_by (end_of e acts).exchange act)
 arrived_more e acts None = sym (append-nil (arrived_in e acts))
 arrived_more e acts (Some act) = refl
 
@@ -66,13 +66,13 @@ heard_tick : (at : Bool) (format : ℕ) (history : History) → arrived_at at fo
 heard_tick true format history = refl
 heard_tick false format history = refl
 
-heard_is : (format : ℕ) (history : History) (act : Act) → arrived_at (acting_end act) format (then_came history act) ≡ arrived_at (acting_end act) format history ++ noted (arrives (both_after format history) act)
+heard_is : (format : ℕ) (history : History) (act : Act) → arrived_at (acting_end act) format (then_came history act) ≡ arrived_at (acting_end act) format history ++ arrivals_of (arrives (both_after format history) act)
 heard_is format history (Call at message) = heard_call at format history message
 heard_is format history (Return at call message) = heard_return at format history call message
 heard_is format history (Deliver true number) = arrived_more (start 0 format) (acts_of true format history) _
 heard_is format history (Deliver false number) = arrived_more (start 0 format) (acts_of false format history) _
 heard_is format history (Tick at) = heard_tick at format history
 
-pub heard_more : (r : Result Arrived TwoFault) (old : Both) (act : Act) (format : ℕ) (history : History) → IfOk r (λ arrived. arrived ≡ arrives old act) → old ≡ both_after format history → IfOk r (λ arrived. arrived_at (acting_end act) format (then_came history act) ≡ arrived_at (acting_end act) format history ++ noted arrived)
-heard_more (Ok x) old act format history is stands = heard_is format history act ∙ ap (λ (a : Arrived). arrived_at (acting_end act) format history ++ noted a) (sym (is ∙ ap (λ (both : Both). arrives both act) stands))
+pub heard_more : (r : Result Arrived TwoFault) (old : Both) (act : Act) (format : ℕ) (history : History) → IfOk r (λ arrived. arrived ≡ arrives old act) → old ≡ both_after format history → IfOk r (λ arrived. arrived_at (acting_end act) format (then_came history act) ≡ arrived_at (acting_end act) format history ++ arrivals_of arrived)
+heard_more (Ok x) old act format history is stands = heard_is format history act ∙ ap (λ (a : Arrived). arrived_at (acting_end act) format history ++ arrivals_of a) (sym (is ∙ ap (λ (both : Both). arrives both act) stands))
 heard_more (Err x) old act format history is stands = tt

@@ -4,7 +4,7 @@ use Rattle.circus_exchange.specs.declared.exchange.Exchange.{Exchange}
 use Rattle.circus_exchange.specs.declared.taken.Arrived.{Arrived}
 use Rattle.circus_exchange.specs.declared.taken.Arrived.TheVariants.{Nothing, ArrivedCall, ArrivedReturn}
 use Rattle.circus_segment.specs.Segment.{Piece, IsSegment, is_acknowledgement, spelling}
-use Rattle.circus_exchange.specs.Exchange.{send_call, send_return, takes, after, ticked, stop_exchange}
+use Rattle.circus_exchange.specs.Exchange.{send_call, send_return, takes, after, count_tick, stop_exchange}
 use Rattle.circus_pair.specs.Taken.{count_in, has_arrived, message_in}
 
 -- a call or a return is handed over, a datagram comes that is a segment, a tick comes, the other end is declared down
@@ -23,7 +23,7 @@ abbrev pub happens : Exchange → Act → Exchange
 happens e (Call message) = send_call e message
 happens e (Return call message) = send_return e call message
 happens e (Came s) = after e s
-happens e Tick = ticked e
+happens e Tick = count_tick e
 happens e Stop = stop_exchange e
 
 -- an end that began as e, after these acts

@@ -49,15 +49,15 @@ pub record Arrival : Type 0 where
   pub call : ℕ
   pub message : List ℕ
 
-abbrev pub noted : Arrived → List Arrival
-noted Nothing = []
-noted (ArrivedCall call message) = record { kind = 0; call = call; message = message } ∷ []
-noted (ArrivedReturn call message) = record { kind = 1; call = call; message = message } ∷ []
+abbrev pub arrivals_of : Arrived → List Arrival
+arrivals_of Nothing = []
+arrivals_of (ArrivedCall call message) = record { kind = 0; call = call; message = message } ∷ []
+arrivals_of (ArrivedReturn call message) = record { kind = 1; call = call; message = message } ∷ []
 
 -- the messages that have arrived at an end which began as e, oldest first
 abbrev pub arrived_in : Exchange → Acts → List Arrival
 arrived_in e none_yet = []
-arrived_in e (more acts act) = arrived_in e acts ++ noted (arrival_of (end_after e acts) act)
+arrived_in e (more acts act) = arrived_in e acts ++ arrivals_of (arrival_of (end_after e acts) act)
 
 -- the message that was handed over, of a call (kind 0) or as the return to one (kind 1)
 abbrev pub handed_over : ℕ → Acts → ℕ → ℕ → Option (List ℕ)

@@ -47,7 +47,7 @@ impl Model for Pair {
 }
 
 impl Pair {
-    ghost use Rattle.circus_exchange.specs.Exchange.{IsSendable, start, send_call, datagrams_of_call, send_return, datagrams_of_return, awaits_return, takes, after, datagrams_after, arrived_after, ticked, is_suspect, datagrams_of_tick, stop_exchange};
+    ghost use Rattle.circus_exchange.specs.Exchange.{IsSendable, start, send_call, datagrams_of_call, send_return, datagrams_of_return, awaits_return, takes, after, datagrams_after, arrived_after, count_tick, is_suspect, datagrams_of_tick, stop_exchange};
 
     /// An end before any call, in segment format 1 or 2. It takes no memory.
     pub fn new(alloc: Global, format: u8) -> Pair
@@ -180,7 +180,7 @@ impl Pair {
         requires up { self.old.stopped ≡ false }
         ensures datagrams { IfOk result (λ tick. tick.datagrams ≡ datagrams_of_tick self.old) }
         ensures suspect { IfOk result (λ tick. tick.suspect ≡ is_suspect self.old) }
-        ensures state { OnOk result (self.new ≡ ticked self.old) }
+        ensures state { OnOk result (self.new ≡ count_tick self.old) }
         ensures stands { (first format : ℕ) (acts : Acts) → StandsFor self.old first format acts
             → OnOk result (StandsFor self.new first format (more acts Tick)) }
         ensures owed { (first format : ℕ) (acts : Acts) → StandsFor self.old first format acts

@@ -1,7 +1,7 @@
 // Two ends of a pair that are put together, and what happens at them.
 ghost use Rattle.std.specs.Prelude.{◌≡◌, ◌⊎◌, ℕ, true, false, length, slice_get, nat_lt, ◌++◌, IfOk, OnOk, OnErr, Err};
 ghost use Rattle.circus_pair.specs.declared.two_ends.TwoFault.TheVariants.{NoSuch, Spent};
-ghost use Rattle.circus_pair.specs.TwoEnds.{History, begun, then_came, both_after, acts_of, IsLawfulHistory, Agree, arrived_at, acting_end, noted, move_end, act_of_delivery, arrived_by, step_both, arrives, CanBeSent, names_none, has_no_number};
+ghost use Rattle.circus_pair.specs.TwoEnds.{History, begun, then_came, both_after, acts_of, IsLawfulHistory, Agree, arrived_at, acting_end, arrivals_of, move_end, act_of_delivery, arrived_by, step_both, arrives, CanBeSent, names_none, has_no_number};
 
 use crate::side::Side;
 use circus_exchange::Arrived;
@@ -106,7 +106,7 @@ impl TwoEnds {
         ensures heard { (format : ℕ) (history : History) → self.old ≡ both_after format history
             → IfOk result (λ arrived.
             arrived_at (acting_end act) format (then_came history act)
-            ≡ arrived_at (acting_end act) format history ++ noted arrived) }
+            ≡ arrived_at (acting_end act) format history ++ arrivals_of arrived) }
     {
         self.happen(act)
     }

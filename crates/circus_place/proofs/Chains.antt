@@ -10,30 +10,30 @@ use Rattle.circus_place.specs.Written.{Written}
 use Rattle.circus_place.specs.Written as written
 use Rattle.circus_place.specs.declared.start.AloneStart.{AloneStart}
 use Rattle.circus_place.specs.Grammar.{or_word, and_word}
-use Rattle.circus_place.specs.Reading.{no_deeper, alone_start, alone_by, chained, join_chain, chain, negation, further_and, further_or, conjunct, condition, group_behind_not, group_or_relation, with_further, with_further_and, with_further_or}
+use Rattle.circus_place.specs.Reading.{no_deeper, alone_start, alone_by, parts_behind, join_chain, chain, negation, further_and, further_or, conjunct, condition, group_behind_not, group_or_relation, with_further, with_further_and, with_further_or}
 
-chained_none : (operator : Lexeme) (part : Reader → Written × Reader) (further : Reader → List Written × Reader) (r : Reader) (b : Bool) → b ≡ sees (is_lexeme operator) r → b ≡ false → chained operator part further r ≡ ([], r)
+chained_none : (operator : Lexeme) (part : Reader → Written × Reader) (further : Reader → List Written × Reader) (r : Reader) (b : Bool) → b ≡ sees (is_lexeme operator) r → b ≡ false → parts_behind operator part further r ≡ ([], r)
 chained_none operator part further r b seen missed = rw (← seen, missed) refl
 
 chained_some : (operator : Lexeme) (part : Reader → Written × Reader) (further : Reader → List Written × Reader) (r s t : Reader) (v : Written) (b : Bool) → b ≡ sees (is_lexeme operator) r → b ≡ true → expect_token operator r ≡ (tt, s) → part s ≡ (v, t)
-    → chained operator part further r ≡ (v ∷ (further t).0, (further t).1)
+    → parts_behind operator part further r ≡ (v ∷ (further t).0, (further t).1)
 chained_some operator part further r s t v b seen hit first second =
     rw (← seen, hit) (ap (λ (x : Written × Reader). (x.0 ∷ (further x.1).0, (further x.1).1)) (ap (λ (y : (Unit {0} × Written) × Reader). (y.0.1, y.1)) (both_is (expect_token operator) part r s t tt v first second)))
 
 chain_none : (join : Written → Written → Written) (operator : Lexeme) (part : Reader → Written × Reader) (further : Reader → List Written × Reader) (r s : Reader) (w : Written) (b : Bool) → part r ≡ (w, s) → b ≡ sees (is_lexeme operator) s → b ≡ false
     → chain join operator part further r ≡ (w, s)
 chain_none join operator part further r s w b is seen missed =
-    ap (λ x. (join_chain join x.0 (chained operator part further x.1).0, (chained operator part further x.1).1)) is
+    ap (λ x. (join_chain join x.0 (parts_behind operator part further x.1).0, (parts_behind operator part further x.1).1)) is
     ∙ ap (λ x. (join_chain join w x.0, x.1)) (chained_none operator part further s b seen missed)
 
 chain_some : (join : Written → Written → Written) (operator : Lexeme) (part : Reader → Written × Reader) (further : Reader → List Written × Reader) (r s t u : Reader) (w v : Written) (b : Bool) (x : Written × Reader) → part r ≡ (w, s) → b ≡ sees (is_lexeme operator) s → b ≡ true
     → expect_token operator s ≡ (tt, t) → part t ≡ (v, u) → with_further join further (join w v) u ≡ x → chain join operator part further r ≡ x
 chain_some join operator part further r s t u w v b x is seen hit first second last =
-    ap (λ y. (join_chain join y.0 (chained operator part further y.1).0, (chained operator part further y.1).1)) is
+    ap (λ y. (join_chain join y.0 (parts_behind operator part further y.1).0, (parts_behind operator part further y.1).1)) is
     ∙ ap (λ y. (join_chain join w y.0, y.1)) (chained_some operator part further s t u v b seen hit first second) ∙ last
 
 further_more : (join : Written → Written → Written) (operator : Lexeme) (part : Reader → Written × Reader) (further : Reader → List Written × Reader) (r s t : Reader) (left v : Written) (b : Bool) (x : Written × Reader) → b ≡ sees (is_lexeme operator) r → b ≡ true
-    → expect_token operator r ≡ (tt, s) → part s ≡ (v, t) → with_further join further (join left v) t ≡ x → with_further join (chained operator part further) left r ≡ x
+    → expect_token operator r ≡ (tt, s) → part s ≡ (v, t) → with_further join further (join left v) t ≡ x → with_further join (parts_behind operator part further) left r ≡ x
 further_more join operator part further r s t left v b x seen hit first second last =
     ap (λ y. (join_chain join left y.0, y.1)) (chained_some operator part further r s t v b seen hit first second) ∙ last
 

@@ -26,7 +26,7 @@ use Rattle.circus_place.specs.declared.start.AloneStart.{AloneStart}
 use Rattle.circus_place.specs.declared.start.AloneStart.TheVariants as begins
 use Rattle.circus_place.specs.Written.{Written, or, and, not, group, differ, compare, holds}
 use Rattle.circus_place.specs.Grammar.{truth_word, spelling_operand, sign_of, or_word, and_word, ors, ands, opened_times, spelling_condition, IsCondition, IsConjunct, IsNegated, IsOperand}
-use Rattle.circus_place.specs.Reading.{seen_comparison, relation_from, relation, differ_test, filled_condition, too_deep, no_deeper, alone_start, alone_by, chained, join_chain, chain, grouped_with, denied_with, negation, further_and, further_or, conjunct, condition}
+use Rattle.circus_place.specs.Reading.{seen_comparison, relation_from, relation, differ_test, filled_condition, too_deep, no_deeper, alone_start, alone_by, parts_behind, join_chain, chain, grouped_with, denied_with, negation, further_and, further_or, conjunct, condition}
 use Rattle.circus_place.proofs.Parts.{each_listed, listed_each, Calms, IsCompared, IsRelated, IsDiffering, lawful_relation, lawful_differing}
 use Rattle.circus_place.proofs.Ways.{due_is, number_is, text_is, seen_is, Image, lawful_image, sound_read, lawful_read, branch_too_deep}
 
@@ -188,7 +188,7 @@ single_joined w (x ∷ xs) none = single_joined (and w x) xs refl
 
 pub single_conjunct : (n : ℕ) (r : Reader) → ors (conjunct n r).0 ≡ 0
 unfolding conjunct
-single_conjunct n r = single_joined (negation n r).0 (chained and_word (negation n) (further_and n) (negation n r).1).0 (single_negated n r).0
+single_conjunct n r = single_joined (negation n r).0 (parts_behind and_word (negation n) (further_and n) (negation n r).1).0 (single_negated n r).0
 
 -- What is read is spelled.
 
@@ -196,7 +196,7 @@ abbrev spelling_further : Lexeme → List Written → List Due
 spelling_further operator xs = open_level (spelling_parts operator xs)
 
 sound_chained : (operator : Lexeme) {Good : Written → Type 0} {part : Reader → Written × Reader} {further : Reader → List Written × Reader} → Sound part spelling_condition Good
-    → Sound further (spelling_further operator) (IsEach Good) → Sound (chained operator part further) (spelling_parts operator) (IsEach Good)
+    → Sound further (spelling_further operator) (IsEach Good) → Sound (parts_behind operator part further) (spelling_parts operator) (IsEach Good)
 sound_chained operator {Good} P F =
     sound_either (is_lexeme operator)
     (sound_mapped (λ x. x.0 ∷ x.1) (spelling_parts operator) (IsEach Good) (λ x. refl) (λ x g. g) (sound_both (sound_behind operator P) F))
@@ -337,7 +337,7 @@ parts_link operator Stays follows (x ∷ xs) ts rest d stays = follows (first (t
 lawful_chained : (n : ℕ) (operator : Lexeme) {Good : Written → Type 0} {Stays : Option Placed → Type 0} {part part' : Reader → Written × Reader} {further further' : Reader → List Written × Reader}
     → ((o : Option Placed) → passes (is_lexeme operator) o ≡ true → Stays o) → Lawful n part part' spelling_condition Good Stays
     → Lawful n further further' (spelling_further operator) (IsEach Good) (λ o. Stays o × (passes (is_lexeme operator) o ≡ false))
-    → Lawful n (chained operator part further) (chained operator part' further') (spelling_parts operator) (IsEach Good) (λ o. Stays o × (passes (is_lexeme operator) o ≡ false))
+    → Lawful n (parts_behind operator part further) (parts_behind operator part' further') (spelling_parts operator) (IsEach Good) (λ o. Stays o × (passes (is_lexeme operator) o ≡ false))
 lawful_chained n operator {Good} {Stays} follows P F =
     lawful_weaker n (λ o. Stays o × (passes (is_lexeme operator) o ≡ false)) (λ o h. (h, h.1))
     (lawful_rest (is_lexeme operator) n [] (IsEach Good) refl tt (listed_each Good) (each_listed Good) opens
@@ -356,7 +356,7 @@ lawful_chained n operator {Good} {Stays} follows P F =
 -- where no level is left
 lawful_no_further : (operator : Lexeme) {Good : Written → Type 0} {Stays : Option Placed → Type 0} {part : Reader → Written × Reader} {further : Reader → List Written × Reader} → Sound part spelling_condition Good
     → Sound further (spelling_further operator) (IsEach Good)
-    → Lawful 0 (either (is_lexeme operator) no_deeper (nothing [])) (chained operator part further) (spelling_further operator) (IsEach Good) (λ o. Stays o × (passes (is_lexeme operator) o ≡ false))
+    → Lawful 0 (either (is_lexeme operator) no_deeper (nothing [])) (parts_behind operator part further) (spelling_further operator) (IsEach Good) (λ o. Stays o × (passes (is_lexeme operator) o ≡ false))
 unfolding no_deeper
 lawful_no_further operator {Good} {Stays} {part} {further} P F = record {
   narrow = sound_no_further operator Good;

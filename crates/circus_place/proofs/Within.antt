@@ -18,7 +18,7 @@ use Rattle.circus_place.specs.declared.start.AloneStart.{AloneStart}
 use Rattle.circus_place.specs.declared.start.AloneStart.TheVariants as begins
 use Rattle.circus_place.specs.Written.{Written, or, and}
 use Rattle.circus_place.specs.Grammar.{sign_of, or_word, and_word, ors, ands, spelling_constant, spelling_attribute, spelling_machine, spelling_operand, spelling_condition, spelling_present, IsWithin}
-use Rattle.circus_place.specs.Reading.{relation_from, relation, differ_test, too_deep, no_deeper, alone_start, alone_by, chained, chain, grouped_with, denied_with, negation, further_and, further_or, conjunct, condition, placing}
+use Rattle.circus_place.specs.Reading.{relation_from, relation, differ_test, too_deep, no_deeper, alone_start, alone_by, parts_behind, chain, grouped_with, denied_with, negation, further_and, further_or, conjunct, condition, placing}
 use Rattle.circus_place.proofs.Conditions.{spelling_part, spelling_parts, and_chain, or_chain, single_negated, single_conjunct}
 
 -- What opens no level.
@@ -67,7 +67,7 @@ alone_within n denied grouped begins.Differ r d g = (omega arith, (omega arith, 
 alone_within n denied grouped begins.Relation r d g = related_within n _ _
 
 chained_within : (n : ℕ) (operator : Lexeme) (part : Reader → Written × Reader) (further : Reader → List Written × Reader) → ((r : Reader) → AreWithin n (spelling_condition (part r).0))
-    → ((r : Reader) → AreWithin n (open_level (spelling_parts operator (further r).0))) → (r : Reader) → AreWithin n (spelling_parts operator (chained operator part further r).0)
+    → ((r : Reader) → AreWithin n (open_level (spelling_parts operator (further r).0))) → (r : Reader) → AreWithin n (spelling_parts operator (parts_behind operator part further r).0)
 chained_within n operator part further one more r = by_case (passes (is_lexeme operator) (next r))
   where
     by_case : (b : Bool) → AreWithin n (spelling_parts operator (either_case (map_read (λ (x : Written × List Written). x.0 ∷ x.1) (both (behind operator part) further)) (nothing []) b r).0)
@@ -88,7 +88,7 @@ ands_within : (n : ℕ) (part : Reader → Written × Reader) (further : Reader 
     → ((r : Reader) → AreWithin n (open_level (spelling_parts and_word (further r).0))) → (r : Reader) → AreWithin n (spelling_condition (chain and and_word part further r).0)
 ands_within n part further single one more r =
     let w = (part r).0 in
-    let xs = (chained and_word part further (part r).1).0 in
+    let xs = (parts_behind and_word part further (part r).1).0 in
     subst (AreWithin n) (sym (and_chain w xs (single r)))
     (within_append n (spelling_condition w) (spelling_parts and_word xs) (one r) (chained_within n and_word part further one more (part r).1))
 
@@ -96,7 +96,7 @@ ors_within : (n : ℕ) (part : Reader → Written × Reader) (further : Reader �
     → ((r : Reader) → AreWithin n (open_level (spelling_parts or_word (further r).0))) → (r : Reader) → AreWithin n (spelling_condition (chain or or_word part further r).0)
 ors_within n part further single one more r =
     let w = (part r).0 in
-    let xs = (chained or_word part further (part r).1).0 in
+    let xs = (parts_behind or_word part further (part r).1).0 in
     subst (AreWithin n) (sym (or_chain w xs (single r)))
     (within_append n (spelling_condition w) (spelling_parts or_word xs) (one r) (chained_within n or_word part further one more (part r).1))
 

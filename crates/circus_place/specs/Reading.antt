@@ -151,8 +151,8 @@ alone_by group_behind_not group_or_relation begins.Differ = differ_test
 alone_by group_behind_not group_or_relation begins.Relation = relation
 
 -- parts behind an operator
-abbrev pub chained : Lexeme → (Reader → Written × Reader) → (Reader → List Written × Reader) → Reader → List Written × Reader
-chained operator part further =
+abbrev pub parts_behind : Lexeme → (Reader → Written × Reader) → (Reader → List Written × Reader) → Reader → List Written × Reader
+parts_behind operator part further =
     either (is_lexeme operator) (map_read (λ x. x.0 ∷ x.1) (both (behind operator part) further)) (nothing [])
 
 -- a chain leans to the left
@@ -161,7 +161,7 @@ join_chain join first [] = first
 join_chain join first (x ∷ xs) = join_chain join (join first x) xs
 
 abbrev pub chain : (Written → Written → Written) → Lexeme → (Reader → Written × Reader) → (Reader → List Written × Reader) → Reader → Written × Reader
-chain join operator part further = map_read (λ x. join_chain join x.0 x.1) (both part (chained operator part further))
+chain join operator part further = map_read (λ x. join_chain join x.0 x.1) (both part (parts_behind operator part further))
 
 -- a group, of which the parts are read so
 abbrev pub grouped_with : (Reader → Written × Reader) → Reader → Written × Reader
@@ -181,11 +181,11 @@ unfoldable mutual
 
   pub further_and : ℕ → Reader → List Written × Reader
   further_and zero = either (is_lexeme and_word) no_deeper (nothing [])
-  further_and (suc n) = chained and_word (negation n) (further_and n)
+  further_and (suc n) = parts_behind and_word (negation n) (further_and n)
 
   pub further_or : ℕ → Reader → List Written × Reader
   further_or zero = either (is_lexeme or_word) no_deeper (nothing [])
-  further_or (suc n) = chained or_word (chain written.and and_word (negation n) (further_and n)) (further_or n)
+  further_or (suc n) = parts_behind or_word (chain written.and and_word (negation n) (further_and n)) (further_or n)
 
 unfoldable pub conjunct : ℕ → Reader → Written × Reader
 conjunct n = chain written.and and_word (negation n) (further_and n)

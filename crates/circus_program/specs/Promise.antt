@@ -39,8 +39,8 @@ enough_deliveries plan = 2 * all_segments plan.deployment (history_of (behaviour
 
 module _ (plan : Plan) (lines : List Line) (last : WorldState Behaviour) (led : AreLed plan lines last) where
   -- what each node handed over to each other one
-  abbrev pub handed : ℕ → WireActs Purpose
-  handed = acts_of declared_of turn_of first_of plan.deployment (hosted_in plan) lines led.begun
+  abbrev pub acts_of_nodes : ℕ → WireActs Purpose
+  acts_of_nodes = acts_of declared_of turn_of first_of plan.deployment (hosted_in plan) lines led.begun
 
   pub record KeepsPromise : Type 0 where
     -- each node is a node run by what the lines gave to it, and sent all that is from it; the copies agree; and the Ringmaster's views
@@ -51,9 +51,9 @@ module _ (plan : Plan) (lines : List Line) (last : WorldState Behaviour) (led : 
     -- each start, answer and activation came in the first step that allows it, and what may come has come
     pub timely : RecordsAreTimely declared_of turn_of plan.deployment (hosted_in plan) lines led.begun last
     -- each call for an ask, each reply and each snapshot is true of the unreplicated program
-    pub asks : AsksAreTrue (behaviours_in plan) plan.deployment handed
-    pub returns : ReturnsAreTrue (behaviours_in plan) plan.deployment handed
-    pub others : OthersCiteNothing plan.deployment handed
+    pub asks : AsksAreTrue (behaviours_in plan) plan.deployment acts_of_nodes
+    pub returns : ReturnsAreTrue (behaviours_in plan) plan.deployment acts_of_nodes
+    pub others : OthersCiteNothing plan.deployment acts_of_nodes
     -- no two replies to one ask differ
     pub none_differ : NoneDiffer declared_of turn_of last
     -- where nothing is lost every root ends

@@ -4,7 +4,7 @@ use Rattle.std.specs.List.{flat_map}
 use Rattle.std.proofs.lemmas.List.Elements.{All-nil, All-cons, All-head, All-tail}
 use Rattle.circus_header.specs.Field.{Field, word, long, HasRoom, bytes_of}
 use Rattle.circus_header.specs.CallFields.{IsNode}
-use Rattle.circus_header.specs.Seen.Layout.{of_word, of_long, end, field, followed}
+use Rattle.circus_header.specs.Seen.Layout.{of_word, of_long, end, field, then_layout}
 use Rattle.circus_header.specs.Reading.{IsOne, IsAnswer}
 use Rattle.circus_header.specs.declared.header_fault.HeaderFault.{HeaderFault}
 use Rattle.circus_header.specs.declared.header_fault.HeaderFault.TheVariants.{Short, BadField, NoMemory}
@@ -112,7 +112,7 @@ taken_table t is room =
             refl,
             omega arith,
             is.few,
-            subst (λ w. Accepts (followed (entries_layout (length v.entries) []) (λ entries. end (table_of n v.troupe v.incarnation entries))) rest w) same whole,
+            subst (λ w. Accepts (then_layout (entries_layout (length v.entries) []) (λ entries. end (table_of n v.troupe v.incarnation entries))) rest w) same whole,
           ),
         ),
       ),
@@ -173,12 +173,12 @@ number_same (suc (suc (suc (suc n)))) low = absurd (omega arith)
 tables_meant : (t : Table) (fs : List Field) → Accepts table_layout fs t → IsOne tables t × (table_fields t ≡ fs)
 tables_meant t fs a =
     let p = front of_word 0 3 (λ result. field of_word 0 31 (λ troupe. field of_long 1 4294967295 (λ incarnation. field of_word 0 16 (λ count.
-    followed (entries_layout count []) (λ entries. end (table_of result troupe incarnation entries)))))) fs t a in
+    then_layout (entries_layout count []) (λ entries. end (table_of result troupe incarnation entries)))))) fs t a in
     let q = front of_word 0 31 (λ troupe. field of_long 1 4294967295 (λ incarnation. field of_word 0 16 (λ count.
-    followed (entries_layout count []) (λ entries. end (table_of p.n troupe incarnation entries))))) p.others t p.taken in
+    then_layout (entries_layout count []) (λ entries. end (table_of p.n troupe incarnation entries))))) p.others t p.taken in
     let r = front of_long 1 4294967295 (λ incarnation. field of_word 0 16 (λ count.
-    followed (entries_layout count []) (λ entries. end (table_of p.n q.n incarnation entries)))) q.others t q.taken in
-    let s = front of_word 0 16 (λ count. followed (entries_layout count []) (λ entries. end (table_of p.n q.n r.n entries))) r.others t r.taken in
+    then_layout (entries_layout count []) (λ entries. end (table_of p.n q.n incarnation entries)))) q.others t q.taken in
+    let s = front of_word 0 16 (λ count. then_layout (entries_layout count []) (λ entries. end (table_of p.n q.n r.n entries))) r.others t r.taken in
     let m = mapped (entries_layout s.n []) (table_of p.n q.n r.n) s.others t s.taken in
     let l = listed s.n [] s.others m.x m.taken in
     let len : length m.x ≡ s.n = ap length l.whole ∙ l.many in

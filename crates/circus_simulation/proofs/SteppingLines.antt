@@ -15,7 +15,7 @@ use Rattle.circus_schedule.specs.declared.line.Line.{Line}
 use Rattle.circus_schedule.specs.declared.line.Line.TheVariants.{Deliver, Tick, Crash, Down, Join}
 use Rattle.circus_world.specs.declared.sent.Sent.{Sent}
 use Rattle.circus_world.specs.WorldState.{WorldState, Standing, is_live}
-use Rattle.circus_world.specs.Course.{Stepped, pass_step, noted, told_to_join, conclude_step, comes_to, deliver_sent, step_line}
+use Rattle.circus_world.specs.Course.{Stepped, pass_step, note_at, told_to_join, conclude_step, comes_to, deliver_sent, step_line}
 use Rattle.circus_world.specs.Boot.{before_any, joined_by, then_others, all_booted}
 use Rattle.circus_world.proofs.SoundLemmas.{noted_length}
 
@@ -42,7 +42,7 @@ module _ {M : Type 0} where
   concluded_keeps node s w (Err peer) = tt
 
   -- a step behind a note
-  noted_before : (note : Standing M → Standing M) (node : ℕ) (w : WorldState M) (s : Stepped M) → KeepsIfOk (noted note node w) s → KeepsIfOk w s
+  noted_before : (note : Standing M → Standing M) (node : ℕ) (w : WorldState M) (s : Stepped M) → KeepsIfOk (note_at note node w) s → KeepsIfOk w s
   noted_before note node w (Ok next) keeps = record { deployment = keeps.deployment; nodes = keeps.nodes ∙ noted_length note node w; steps = keeps.steps }
   noted_before note node w (Err nodes) keeps = tt
 

@@ -12,7 +12,7 @@ use Rattle.circus_syntax.proofs.Repeats.{Shrinks, sound_either, sound_optional, 
 use Rattle.circus_syntax.proofs.Tokens.{Always, sound_fixed, sound_fixed_at, sound_name, sound_behind, sound_listed, shrinks_at, shrinks_fixed, shrinks_both}
 use Rattle.circus_syntax.proofs.Lawful.{sound_stopped, sound_good}
 use Rattle.circus_expression.specs.declared.operator.Chain.TheVariants as of
-use Rattle.circus_expression.specs.ExpressionReading.{expect_where, is_bracket, chained, read_place}
+use Rattle.circus_expression.specs.ExpressionReading.{expect_where, is_bracket, read_chain, read_place}
 use Rattle.circus_expression.specs.Written.{Written, WrittenPlace, spelling, spelling_place, spelling_list, IsWritten, IsPlace}
 use Rattle.circus_expression.proofs.Follows.{at}
 use Rattle.circus_expression.proofs.Openers.{sound_filled_list, all_each}
@@ -28,7 +28,7 @@ use Rattle.circus_statement.specs.StatementReading.{is_word, begins_statement, s
 pub sound_respelled : {A : Type 0} {p : Reader → A × Reader} {sa : A → List Due} {ga : A → Type 0} (sb : A → List Due) (gb : A → Type 0) → ((x : A) → sb x ≡ sa x) → ((x : A) → ga x → gb x) → Sound p sa ga → Sound p sb gb
 sound_respelled sb gb spelled kept P = sound_mapped (λ x. x) sb gb spelled kept P
 
-pub sound_expression_within : (n : ℕ) → Sound (chained n of.Expression) spelling IsWritten
+pub sound_expression_within : (n : ℕ) → Sound (read_chain n of.Expression) spelling IsWritten
 sound_expression_within n = (expressions_lawful n (n + 2) (omega arith)).narrow
 
 pub sound_place_within : (n : ℕ) → Sound (read_place n) spelling_place IsPlace

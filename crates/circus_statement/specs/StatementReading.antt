@@ -7,7 +7,7 @@ use Rattle.circus_syntax.specs.Placed.{Placed, word, sign, is_lexeme, is_name}
 use Rattle.circus_syntax.specs.Reader.{Reader, stop_reading, nothing, both, map_read, choose_by, either, optional, repeat_while}
 use Rattle.circus_syntax.specs.Reading.{expect_token, fixed_at, name, behind, comma_list}
 use Rattle.circus_expression.specs.declared.operator.Chain.TheVariants as of
-use Rattle.circus_expression.specs.ExpressionReading.{expect_where, in_brackets, is_bracket, chained, read_place, list}
+use Rattle.circus_expression.specs.ExpressionReading.{expect_where, in_brackets, is_bracket, read_chain, read_place, list}
 use Rattle.circus_expression.specs.Written.{Written, WrittenPlace}
 use Rattle.circus_statement.specs.declared.starts.StatementStart.{StatementStart}
 use Rattle.circus_statement.specs.declared.starts.StatementStart.TheVariants as begins
@@ -96,15 +96,15 @@ if_statement at e ss (Some os) = then_else at e (written_statements ss) (written
 -- a statement of so many levels, whose lists of statements are read so
 abbrev pub statement_by : ℕ → Block → StatementStart → Reader → WrittenStatement × Reader
 statement_by levels block begins.Assign =
-    map_read (λ x. assign x.0.name.at x.0 x.1.1.0) (both (read_place levels) (both (expect_token (sign (codes ":="))) (both (chained levels of.Expression) semicolon)))
+    map_read (λ x. assign x.0.name.at x.0 x.1.1.0) (both (read_place levels) (both (expect_token (sign (codes ":="))) (both (read_chain levels of.Expression) semicolon)))
 statement_by levels block begins.If =
     map_read (λ x. if_statement x.0 x.1.0 x.1.1.0 x.1.1.1.0)
-    (both (fixed_at (word (codes "IF"))) (both (chained levels of.Expression) (both (block (codes "THEN")) (both (optional (is_word (codes "ELSE")) (block (codes "ELSE"))) list_end))))
+    (both (fixed_at (word (codes "IF"))) (both (read_chain levels of.Expression) (both (block (codes "THEN")) (both (optional (is_word (codes "ELSE")) (block (codes "ELSE"))) list_end))))
 statement_by levels block begins.While =
-    map_read (λ x. while x.0 x.1.0 (written_statements x.1.1.0)) (both (fixed_at (word (codes "WHILE"))) (both (chained levels of.Expression) (both (block (codes "DO")) list_end)))
+    map_read (λ x. while x.0 x.1.0 (written_statements x.1.1.0)) (both (fixed_at (word (codes "WHILE"))) (both (read_chain levels of.Expression) (both (block (codes "DO")) list_end)))
 statement_by levels block begins.Append =
     map_read (λ x. append x.0 x.1.0 x.1.1.1.0)
-    (both (fixed_at (word (codes "APPEND"))) (both (chained levels of.Expression) (both (expect_token (word (codes "TO"))) (both (read_place levels) semicolon))))
+    (both (fixed_at (word (codes "APPEND"))) (both (read_chain levels of.Expression) (both (expect_token (word (codes "TO"))) (both (read_place levels) semicolon))))
 statement_by levels block begins.Call =
     map_read (λ x. call x.0.0 x.0.1 (written_handlers x.1.0)) (both (call_head levels) (both (repeat_while (is_word (codes "ON")) (handler_with levels block)) semicolon))
 statement_by levels block begins.Return = map_read (λ x. return x.0 x.1.0) (both (fixed_at (word (codes "RETURN"))) (both (required_list levels) semicolon))

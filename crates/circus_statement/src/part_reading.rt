@@ -2,7 +2,7 @@
 ghost use Rattle.std.specs.Prelude.{◌≡◌, map, option_map, IfOk};
 ghost use Rattle.circus_syntax.specs.Reader.{place};
 ghost use Rattle.circus_expression.specs.ExpressionOf.{place_of};
-ghost use Rattle.circus_expression.specs.Standing.{shown};
+ghost use Rattle.circus_expression.specs.Standing.{show_as};
 ghost use Rattle.circus_expression.specs.Standing as expression;
 ghost use Rattle.circus_statement.specs.StatementOf.{into_of};
 ghost use Rattle.circus_statement.specs.StatementStanding.{places_stand_for, into_stands_for, call_stands_for, handled_stands_for};
@@ -16,7 +16,7 @@ use circus_value::NoMemory;
 /// A list of expressions, or a stop where its bracket is missing.
 pub fn required_list(reader: &mut Reader<'_>, levels: u8) -> Result<Expressions, NoMemory>
     ensures { IfOk result (λ read.
-        shown (map expression.stands_for) (required_list levels reader.old) ≡ (read, reader.new)) }
+        show_as (map expression.stands_for) (required_list levels reader.old) ≡ (read, reader.new)) }
 {
     if reader.sees_sign(b"[") {
         return list_text(reader, levels);
@@ -27,7 +27,7 @@ pub fn required_list(reader: &mut Reader<'_>, levels: u8) -> Result<Expressions,
 
 fn places_within(reader: &mut Reader<'_>, levels: u8) -> Result<PlaceTexts, NoMemory>
     ensures { IfOk result (λ read.
-        shown places_stand_for (places_within levels reader.old)
+        show_as places_stand_for (places_within levels reader.old)
         ≡ (map place_of read, reader.new)) }
 {
     let mut places = PlaceTexts::new(reader.alloc());
@@ -45,7 +45,7 @@ fn places_within(reader: &mut Reader<'_>, levels: u8) -> Result<PlaceTexts, NoMe
 /// Places in brackets.
 pub fn places(reader: &mut Reader<'_>, levels: u8) -> Result<PlaceTexts, NoMemory>
     ensures { IfOk result (λ read.
-        shown places_stand_for (places levels reader.old) ≡ (map place_of read, reader.new)) }
+        show_as places_stand_for (places levels reader.old) ≡ (map place_of read, reader.new)) }
 {
     reader.sign(b"[");
     let places = places_within(reader, levels)?;
@@ -55,7 +55,7 @@ pub fn places(reader: &mut Reader<'_>, levels: u8) -> Result<PlaceTexts, NoMemor
 
 fn into(reader: &mut Reader<'_>, levels: u8) -> Result<IntoText, NoMemory>
     ensures { IfOk result (λ read.
-        shown into_stands_for (into levels reader.old) ≡ (into_of read, reader.new)) }
+        show_as into_stands_for (into levels reader.old) ≡ (into_of read, reader.new)) }
 {
     let at = reader.place();
     reader.word(b"INTO");
@@ -66,7 +66,7 @@ fn into(reader: &mut Reader<'_>, levels: u8) -> Result<IntoText, NoMemory>
 /// Where results go, if the next token says so.
 pub fn into_if_any(reader: &mut Reader<'_>, levels: u8) -> Result<Option<IntoText>, NoMemory>
     ensures { IfOk result (λ read.
-        shown (option_map into_stands_for) (into_if_any levels reader.old)
+        show_as (option_map into_stands_for) (into_if_any levels reader.old)
         ≡ (option_map into_of read, reader.new)) }
 {
     if reader.sees_word(b"INTO") {
@@ -79,7 +79,7 @@ pub fn into_if_any(reader: &mut Reader<'_>, levels: u8) -> Result<Option<IntoTex
 /// Where an error's values go, if a bracket is the next token.
 pub fn handled_places(reader: &mut Reader<'_>, levels: u8) -> Result<Option<PlaceTexts>, NoMemory>
     ensures { IfOk result (λ read.
-        shown (option_map places_stand_for) (handled_places levels reader.old)
+        show_as (option_map places_stand_for) (handled_places levels reader.old)
         ≡ (option_map (map place_of) read, reader.new)) }
 {
     if reader.sees_sign(b"[") {

@@ -2,7 +2,7 @@
 ghost use Rattle.std.specs.Prelude.{◌≡◌, map, option_map, IfOk};
 ghost use Rattle.circus_syntax.specs.Reader.{place};
 ghost use Rattle.circus_expression.specs.ExpressionOf.{place_of};
-ghost use Rattle.circus_expression.specs.Standing.{shown};
+ghost use Rattle.circus_expression.specs.Standing.{show_as};
 ghost use Rattle.circus_statement.specs.StatementOf.{tree_of, kind_tree, handler_of, into_of};
 ghost use Rattle.circus_statement.specs.StatementStanding.{stands_for, handler_stands_for, head_stands_for, handled_stands_for};
 ghost use Rattle.circus_statement.specs.StatementReading.{block, opened_block, else_block, statement, statement_from, handler, handlers, handler_head, call_head};
@@ -26,7 +26,7 @@ pub fn statements_text(
     levels: u8,
 ) -> Result<Statements, NoMemory>
     ensures { IfOk result (λ read.
-        shown (map stands_for) (block levels lead.now reader.old) ≡ (read, reader.new)) }
+        show_as (map stands_for) (block levels lead.now reader.old) ≡ (read, reader.new)) }
 {
     if reader.sees_word(lead) {
         return block_behind(reader, lead, levels);
@@ -38,7 +38,7 @@ pub fn statements_text(
 #[cycle(reading)]
 fn block_behind(reader: &mut Reader<'_>, lead: &[u8], levels: u8) -> Result<Statements, NoMemory>
     ensures { IfOk result (λ read.
-        shown (map stands_for) (opened_block levels lead.now reader.old) ≡ (read, reader.new)) }
+        show_as (map stands_for) (opened_block levels lead.now reader.old) ≡ (read, reader.new)) }
 {
     let mut statements = Statements::new(reader.alloc());
     if levels == 0 {
@@ -55,7 +55,7 @@ fn block_behind(reader: &mut Reader<'_>, lead: &[u8], levels: u8) -> Result<Stat
 #[cycle(reading)]
 fn statement(reader: &mut Reader<'_>, levels: u8) -> Result<Statement, NoMemory>
     ensures { IfOk result (λ read.
-        shown stands_for (statement levels reader.old) ≡ (tree_of read, reader.new)) }
+        show_as stands_for (statement levels reader.old) ≡ (tree_of read, reader.new)) }
 {
     let at = reader.place();
     let kind = statement_kind(reader, levels)?;
@@ -65,7 +65,7 @@ fn statement(reader: &mut Reader<'_>, levels: u8) -> Result<Statement, NoMemory>
 #[cycle(reading)]
 fn statement_kind(reader: &mut Reader<'_>, levels: u8) -> Result<StatementKind, NoMemory>
     ensures { IfOk result (λ kind.
-        shown stands_for (statement levels reader.old)
+        show_as stands_for (statement levels reader.old)
         ≡ (kind_tree (place reader.old) kind, reader.new)) }
 {
     match statement_start(reader) {
@@ -81,7 +81,7 @@ fn statement_kind(reader: &mut Reader<'_>, levels: u8) -> Result<StatementKind, 
 
 fn assignment(reader: &mut Reader<'_>, levels: u8) -> Result<StatementKind, NoMemory>
     ensures { IfOk result (λ kind.
-        shown stands_for (statement_from levels StatementStart.Assign reader.old)
+        show_as stands_for (statement_from levels StatementStart.Assign reader.old)
         ≡ (kind_tree (place reader.old) kind, reader.new)) }
 {
     let place = place_text(reader, levels)?;
@@ -94,7 +94,7 @@ fn assignment(reader: &mut Reader<'_>, levels: u8) -> Result<StatementKind, NoMe
 #[cycle(reading)]
 fn choice(reader: &mut Reader<'_>, levels: u8) -> Result<StatementKind, NoMemory>
     ensures { IfOk result (λ kind.
-        shown stands_for (statement_from levels StatementStart.If reader.old)
+        show_as stands_for (statement_from levels StatementStart.If reader.old)
         ≡ (kind_tree (place reader.old) kind, reader.new)) }
 {
     reader.word(b"IF");
@@ -108,7 +108,7 @@ fn choice(reader: &mut Reader<'_>, levels: u8) -> Result<StatementKind, NoMemory
 #[cycle(reading)]
 fn else_part(reader: &mut Reader<'_>, levels: u8) -> Result<Option<Statements>, NoMemory>
     ensures { IfOk result (λ read.
-        shown (option_map (map stands_for)) (else_block levels reader.old) ≡ (read, reader.new)) }
+        show_as (option_map (map stands_for)) (else_block levels reader.old) ≡ (read, reader.new)) }
 {
     if reader.sees_word(b"ELSE") {
         Ok(Some(statements_text(reader, b"ELSE", levels)?))
@@ -120,7 +120,7 @@ fn else_part(reader: &mut Reader<'_>, levels: u8) -> Result<Option<Statements>, 
 #[cycle(reading)]
 fn repetition(reader: &mut Reader<'_>, levels: u8) -> Result<StatementKind, NoMemory>
     ensures { IfOk result (λ kind.
-        shown stands_for (statement_from levels StatementStart.While reader.old)
+        show_as stands_for (statement_from levels StatementStart.While reader.old)
         ≡ (kind_tree (place reader.old) kind, reader.new)) }
 {
     reader.word(b"WHILE");
@@ -132,7 +132,7 @@ fn repetition(reader: &mut Reader<'_>, levels: u8) -> Result<StatementKind, NoMe
 
 fn addition(reader: &mut Reader<'_>, levels: u8) -> Result<StatementKind, NoMemory>
     ensures { IfOk result (λ kind.
-        shown stands_for (statement_from levels StatementStart.Append reader.old)
+        show_as stands_for (statement_from levels StatementStart.Append reader.old)
         ≡ (kind_tree (place reader.old) kind, reader.new)) }
 {
     reader.word(b"APPEND");
@@ -146,7 +146,7 @@ fn addition(reader: &mut Reader<'_>, levels: u8) -> Result<StatementKind, NoMemo
 #[cycle(reading)]
 fn call(reader: &mut Reader<'_>, levels: u8) -> Result<StatementKind, NoMemory>
     ensures { IfOk result (λ kind.
-        shown stands_for (statement_from levels StatementStart.Call reader.old)
+        show_as stands_for (statement_from levels StatementStart.Call reader.old)
         ≡ (kind_tree (place reader.old) kind, reader.new)) }
 {
     let (callee, procedure, arguments, into) = call_head(reader, levels)?;
@@ -166,7 +166,7 @@ fn call_head(
     reader: &mut Reader<'_>,
     levels: u8,
 ) -> Result<(Named, Named, Expressions, Option<IntoText>), NoMemory>
-    ensures { IfOk result (λ read. shown head_stands_for (call_head levels reader.old)
+    ensures { IfOk result (λ read. show_as head_stands_for (call_head levels reader.old)
         ≡ (
           (
             place reader.old,
@@ -193,7 +193,7 @@ fn call_head(
 #[cycle(reading)]
 fn handlers(reader: &mut Reader<'_>, levels: u8) -> Result<Handlers, NoMemory>
     ensures { IfOk result (λ read.
-        shown (map handler_stands_for) (handlers levels reader.old) ≡ (read, reader.new)) }
+        show_as (map handler_stands_for) (handlers levels reader.old) ≡ (read, reader.new)) }
 {
     let mut handlers = Handlers::new(reader.alloc());
     while reader.sees_word(b"ON") {
@@ -205,7 +205,7 @@ fn handlers(reader: &mut Reader<'_>, levels: u8) -> Result<Handlers, NoMemory>
 #[cycle(reading)]
 fn handler(reader: &mut Reader<'_>, levels: u8) -> Result<Handler, NoMemory>
     ensures { IfOk result (λ read.
-        shown handler_stands_for (handler levels reader.old) ≡ (handler_of read, reader.new)) }
+        show_as handler_stands_for (handler levels reader.old) ≡ (handler_of read, reader.new)) }
 {
     reader.word(b"ON");
     let at = reader.place();
@@ -225,7 +225,7 @@ fn handler_head(
     reader: &mut Reader<'_>,
     levels: u8,
 ) -> Result<(Option<Named>, Option<PlaceTexts>), NoMemory>
-    ensures { IfOk result (λ read. shown handled_stands_for (handler_head levels reader.old)
+    ensures { IfOk result (λ read. show_as handled_stands_for (handler_head levels reader.old)
         ≡ (
           record {
             at = place reader.old;
@@ -247,7 +247,7 @@ fn handler_head(
 
 fn end(reader: &mut Reader<'_>, levels: u8) -> Result<StatementKind, NoMemory>
     ensures { IfOk result (λ kind.
-        shown stands_for (statement_from levels StatementStart.Return reader.old)
+        show_as stands_for (statement_from levels StatementStart.Return reader.old)
         ≡ (kind_tree (place reader.old) kind, reader.new)) }
 {
     reader.word(b"RETURN");
@@ -258,7 +258,7 @@ fn end(reader: &mut Reader<'_>, levels: u8) -> Result<StatementKind, NoMemory>
 
 fn failure(reader: &mut Reader<'_>, levels: u8) -> Result<StatementKind, NoMemory>
     ensures { IfOk result (λ kind.
-        shown stands_for (statement_from levels StatementStart.Raise reader.old)
+        show_as stands_for (statement_from levels StatementStart.Raise reader.old)
         ≡ (kind_tree (place reader.old) kind, reader.new)) }
 {
     reader.word(b"RAISE");

@@ -15,7 +15,7 @@ use Rattle.circus_pair.specs.Handed.{calls_made, call_at}
 use Rattle.circus_pair.specs.Lawful.{AreLawful, is_stopped_after}
 use Rattle.circus_pair.specs.Standing.{arrival_after}
 use Rattle.circus_pair.specs.Sending.{outputs}
-use Rattle.circus_pair.specs.TwoEnds.{with_act, sent_by, datagrams_by, arrived_in, Arrival, noted}
+use Rattle.circus_pair.specs.TwoEnds.{with_act, sent_by, datagrams_by, arrived_in, Arrival, arrivals_of}
 use Rattle.circus_pair.proofs.Following as following
 use Rattle.circus_pair.proofs.OneEnd.{arrived_once, arrived_stays}
 use Rattle.circus_pair.proofs.Outputs.{call_sends, return_sends, came_sends, tick_sends}
@@ -70,10 +70,10 @@ heard_tick : (e : Exchange) (acts : Acts) (b : Bool) (arrived : List Arrival) �
 heard_tick e acts true arrived is = is
 heard_tick e acts false arrived is = is ∙ sym (append-nil (arrived_in e acts))
 
-heard_came : (first format : ℕ) (acts : Acts) (b : Bool) (s : Piece) (arrived : List Arrival) → AreLawful first format (with_act acts (cond b (Some (Came s)) None)) → arrived ≡ arrived_in (start first format) acts → arrived ++ cond b (noted (arrival_after (start first format) acts s)) [] ≡ arrived_in (start first format) (with_act acts (cond b (Some (Came s)) None))
+heard_came : (first format : ℕ) (acts : Acts) (b : Bool) (s : Piece) (arrived : List Arrival) → AreLawful first format (with_act acts (cond b (Some (Came s)) None)) → arrived ≡ arrived_in (start first format) acts → arrived ++ cond b (arrivals_of (arrival_after (start first format) acts s)) [] ≡ arrived_in (start first format) (with_act acts (cond b (Some (Came s)) None))
 heard_came first format acts true s arrived lawful is =
-    ap (λ xs. xs ++ noted (arrival_after (start first format) acts s)) is
-    ∙ ap (λ a. arrived_in (start first format) acts ++ noted a) (sym (following.arrives_as_owed (end_after (start first format) acts) first format acts (record { lawful = lawful.0; is = refl }) s lawful.1))
+    ap (λ xs. xs ++ arrivals_of (arrival_after (start first format) acts s)) is
+    ∙ ap (λ a. arrived_in (start first format) acts ++ arrivals_of a) (sym (following.arrives_as_owed (end_after (start first format) acts) first format acts (record { lawful = lawful.0; is = refl }) s lawful.1))
 heard_came first format acts false s arrived lawful is = append-nil arrived ∙ is
 
 one_at_most : (b : Bool) (n : ℕ) → n ≡ cond b 1 0 → n ≤ 1

@@ -10,7 +10,7 @@ use Rattle.std.proofs.lemmas.Bool.Decides.{eqb_tells}
 use Rattle.circus_segment.specs.Segment.{Piece, IsSegment}
 use Rattle.circus_exchange.specs.declared.exchange.Exchange.{Exchange}
 use Rattle.circus_exchange.specs.Limits.{never_used}
-use Rattle.circus_exchange.specs.Exchange.{start, IsSendable, awaits_return, stop_exchange, ticked}
+use Rattle.circus_exchange.specs.Exchange.{start, IsSendable, awaits_return, stop_exchange, count_tick}
 use Rattle.circus_exchange.proofs.Ties.{nat_ties, equal}
 use Rattle.circus_pair.specs.Taken.{has_arrived}
 use Rattle.circus_pair.specs.Acts.{Act, Call, Return, Came, Tick, Stop, none_yet, more, taken_by}
@@ -112,9 +112,9 @@ module _ {P : Type 0} where
 
   pub peer_stands_ticked : (b : Beginning) (acts : WireActs P) (node : ℕ) (p : PeerState P) → PeerStands b acts node p → PeerStands b (followed_by acts TickAll) node (peer_ticked p)
   peer_stands_ticked b acts node p stands =
-      elim p.exchange.stopped as (λ x. p.exchange.stopped ≡ x → PeerStands b (followed_by acts TickAll) node (cond x p (record p { exchange = ticked p.exchange }))) [
+      elim p.exchange.stopped as (λ x. p.exchange.stopped ≡ x → PeerStands b (followed_by acts TickAll) node (cond x p (record p { exchange = count_tick p.exchange }))) [
         | true ↦ λ down. unmoved b acts TickAll node p (ap (λ x. cond x None (Some Tick)) (sym (down_is b acts node p stands) ∙ down)) (λ n. refl) stands
-        | false ↦ λ up. moved b acts TickAll node (record p { exchange = ticked p.exchange }) Tick (ap (λ x. cond x None (Some Tick)) (sym (down_is b acts node p stands) ∙ up))
+        | false ↦ λ up. moved b acts TickAll node (record p { exchange = count_tick p.exchange }) Tick (ap (λ x. cond x None (Some Tick)) (sym (down_is b acts node p stands) ∙ up))
             (following.stands_ticked p.exchange b.first b.format _ stands.pair _ up refl) stands.purposes
       ] refl
 
@@ -167,12 +167,12 @@ module _ {P : Type 0} where
     own = stands.own;
     format = stands.format;
     nodes = length-map w.peers peer_ticked ∙ stands.nodes;
-    peers = λ place p is. ticked place p (slice_get w.peers place) refl (sym (get_map peer_ticked w.peers place) ∙ is);
+    peers = λ place p is. count_tick place p (slice_get w.peers place) refl (sym (get_map peer_ticked w.peers place) ∙ is);
   }
     where
-      ticked : (place : ℕ) (p : PeerState P) (o : Option (PeerState P)) → slice_get w.peers place ≡ o → option_map peer_ticked o ≡ Some p → PeerStands b (followed_by acts TickAll) (node_at b.own place) p
-      ticked place p None at is = absurd cc
-      ticked place p (Some x) at is = (let same : peer_ticked x ≡ p = cc in subst (λ q. PeerStands b (followed_by acts TickAll) (node_at b.own place) q) same (peer_stands_ticked b acts (node_at b.own place) x (stands.peers place x at)))
+      count_tick : (place : ℕ) (p : PeerState P) (o : Option (PeerState P)) → slice_get w.peers place ≡ o → option_map peer_ticked o ≡ Some p → PeerStands b (followed_by acts TickAll) (node_at b.own place) p
+      count_tick place p None at is = absurd cc
+      count_tick place p (Some x) at is = (let same : peer_ticked x ≡ p = cc in subst (λ q. PeerStands b (followed_by acts TickAll) (node_at b.own place) q) same (peer_stands_ticked b acts (node_at b.own place) x (stands.peers place x at)))
 
   -- a return that is handed over where its call awaits it, or to no use
   pub stands_answered : (b : Beginning) (acts : WireActs P) (w : WireState P) (caller : Caller) (message : List ℕ) → caller.node ≢ w.own → ((p : PeerState P) → slice_get w.peers (place_of w.own caller.node) ≡ Some p → IsSendable p.exchange.format message × (awaits_return p.exchange caller.number ≡ true)) → WireStands w b acts → WireStands (change_peer (λ p. peer_answered p caller.number message) w caller.node) b (followed_by acts (AnswerTo caller message))

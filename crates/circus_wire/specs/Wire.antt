@@ -7,7 +7,7 @@ use Rattle.circus_segment.specs.declared.fault.SegmentFault.{SegmentFault}
 use Rattle.circus_exchange.specs.declared.exchange.Exchange.{Exchange}
 use Rattle.circus_exchange.specs.declared.taken.Arrived.{Arrived}
 use Rattle.circus_exchange.specs.declared.taken.Arrived.TheVariants.{Nothing, ArrivedCall, ArrivedReturn}
-use Rattle.circus_exchange.specs.Exchange.{start, send_call, datagrams_of_call, send_return, datagrams_of_return, awaits_return, takes, after, datagrams_after, arrived_after, ticked, is_suspect, datagrams_of_tick, stop_exchange}
+use Rattle.circus_exchange.specs.Exchange.{start, send_call, datagrams_of_call, send_return, datagrams_of_return, awaits_return, takes, after, datagrams_after, arrived_after, count_tick, is_suspect, datagrams_of_tick, stop_exchange}
 use Rattle.circus_value.specs.declared.caller.Caller.{Caller}
 use Rattle.circus_wire.specs.declared.delivery.Batch.{Batch}
 use Rattle.circus_wire.specs.declared.delivery.Heard.{Heard}
@@ -44,7 +44,7 @@ module _ {P : Type 0} where
 
   -- a tick comes, unless the other node was declared down
   abbrev pub peer_ticked : PeerState P → PeerState P
-  peer_ticked p = if p.exchange.stopped then p else record p { exchange = ticked p.exchange }
+  peer_ticked p = if p.exchange.stopped then p else record p { exchange = count_tick p.exchange }
 
   -- the other node is declared down
   abbrev pub peer_stopped : PeerState P → PeerState P

@@ -9,7 +9,7 @@ use Rattle.circus_pair.specs.Lawful.{is_stopped_after}
 use Rattle.circus_pair.specs.Sending.{outputs, takes_after}
 use Rattle.circus_pair.specs.Standing.{StandsFor, arrival_after}
 use Rattle.circus_pair.specs.Ticking.{suspects_after}
-use Rattle.circus_pair.specs.TwoEnds.{Arrival, noted}
+use Rattle.circus_pair.specs.TwoEnds.{Arrival, arrivals_of}
 use Rattle.circus_wire.specs.declared.delivery.Batch.{Batch}
 use Rattle.circus_wire.specs.declared.delivery.Heard.{Heard}
 use Rattle.circus_wire.specs.declared.delivery.Heard.TheVariants.{Dropped}
@@ -81,5 +81,5 @@ module _ {P : Type 0} where
   -- the messages of a node that have arrived, oldest first
   unfoldable pub arrived_from : Beginning → ℕ → WireActs P → List Arrival
   arrived_from b node begun = []
-  arrived_from b node (followed_by acts (CameFrom from s)) = arrived_from b node acts ++ (if from == node then noted (arrival_after (pair_of b) (acts_at (pair_of b) node acts) s) else [])
+  arrived_from b node (followed_by acts (CameFrom from s)) = arrived_from b node acts ++ (if from == node then arrivals_of (arrival_after (pair_of b) (acts_at (pair_of b) node acts) s) else [])
   arrived_from b node (followed_by acts act) = arrived_from b node acts

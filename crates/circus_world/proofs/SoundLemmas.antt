@@ -26,7 +26,7 @@ use Rattle.circus_schedule.specs.declared.line.Line.{Line}
 use Rattle.circus_schedule.specs.declared.line.Line.TheVariants.{Deliver, Tick, Crash, Down, Join}
 use Rattle.circus_world.specs.declared.sent.Sent.{Sent}
 use Rattle.circus_world.specs.WorldState.{WorldState, Standing, is_live}
-use Rattle.circus_world.specs.Course.{sent_by, Stepped, noted, pass_step, crash_node, told_to_join, conclude_step, comes_to, deliver_sent, step_line}
+use Rattle.circus_world.specs.Course.{sent_by, Stepped, note_at, pass_step, crash_node, told_to_join, conclude_step, comes_to, deliver_sent, step_line}
 use Rattle.circus_world.specs.Boot.{before_any, joined_by, then_others, all_booted, AreHosted}
 use Rattle.circus_world.specs.Lines.{IsBetween}
 use Rattle.circus_world.specs.Seen.Sound.{IsSound}
@@ -81,14 +81,14 @@ module _ {M : Type 0} where
   pub passed_sound : (w : WorldState M) → IsSound w → IsSound (pass_step w)
   passed_sound w sound = record { deployment = sound.deployment; all = sound.all; nodes = sound.nodes; sent = sound.sent }
 
-  pub noted_length : (note : Standing M → Standing M) (node : ℕ) (w : WorldState M) → length (noted note node w).nodes ≡ length w.nodes
+  pub noted_length : (note : Standing M → Standing M) (node : ℕ) (w : WorldState M) → length (note_at note node w).nodes ≡ length w.nodes
   noted_length note node w = by_node (slice_get w.nodes node)
     where
       by_node : (o : Option (Standing M)) → length (option_map_or (λ s. set w.nodes node (note s)) o w.nodes) ≡ length w.nodes
       by_node None = refl
       by_node (Some s) = length-set w.nodes node (note s)
 
-  pub noted_sound : (note : Standing M → Standing M) (node : ℕ) (w : WorldState M) → ((s : Standing M) → (note s).node ≡ s.node) → IsSound w → IsSound (noted note node w)
+  pub noted_sound : (note : Standing M → Standing M) (node : ℕ) (w : WorldState M) → ((s : Standing M) → (note s).node ≡ s.node) → IsSound w → IsSound (note_at note node w)
   noted_sound note node w same sound = by_node (slice_get w.nodes node) refl
     where
       by_node : (o : Option (Standing M)) → slice_get w.nodes node ≡ o → IsSound (record w { nodes = option_map_or (λ s. set w.nodes node (note s)) o w.nodes })

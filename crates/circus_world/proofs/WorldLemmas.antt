@@ -15,7 +15,7 @@ use Rattle.circus_world.specs.declared.slot.Slot.{Slot}
 use Rattle.circus_world.specs.declared.world.Loss.{Loss}
 use Rattle.circus_world.specs.declared.world.Loss.TheVariants as loss
 use Rattle.circus_world.specs.WorldState.{WorldState, Standing}
-use Rattle.circus_world.specs.Course.{sent_by, Stepped, noted, conclude_step, comes_to}
+use Rattle.circus_world.specs.Course.{sent_by, Stepped, note_at, conclude_step, comes_to}
 use Rattle.circus_world.specs.Seen.Slots.{standing, standings, AreFull, world_of}
 use Rattle.circus_world.specs.Seen.Followed.{IsFollowed}
 use Rattle.circus_world.specs.Seen.Made.{CanMake}
@@ -44,7 +44,7 @@ module _ {M P : Type 0} where
 
   pub noted_is : (d : Deployment) (modules : List M) (slots : List (Slot M P)) (sent : List Sent) (steps node : ℕ) (slot next : Slot M P) (note : Standing M → Standing M)
       → AreFull slots → slice_get slots node ≡ Some slot → next.core ≡ slot.core → ((n : NodeState M) → standing n next ≡ note (standing n slot))
-      → world_of d modules (set slots node next) sent steps ≡ noted note node (world_of d modules slots sent steps)
+      → world_of d modules (set slots node next) sent steps ≡ note_at note node (world_of d modules slots sent steps)
   noted_is d modules slots sent steps node slot next note full at same is =
       let core = full_at slots node slot full at in
       let there = get_full slots node slot core.0 full at core.1 in

@@ -111,7 +111,7 @@ module _ {M : Type 0} (declared : M → Signature) (turn : M → List ValueTree 
 
   -- something is noted of a node
   noted_as : (note : Standing M → Standing M) (also : Standing Behaviour → Standing Behaviour) → ((s : Standing M) → one (note s) ≡ also (one s))
-      → (node : ℕ) (w : WorldState M) → seen (course.noted note node w) ≡ course.noted also node (seen w)
+      → (node : ℕ) (w : WorldState M) → seen (course.note_at note node w) ≡ course.note_at also node (seen w)
   noted_as note also same node w =
       let whole : List (Standing Behaviour) → WorldState Behaviour = λ nodes. record (seen w) { nodes = nodes } in
       ap whole (of_option (slice_get w.nodes node) ∙ sym (by_node (λ s. slice_set (map one w.nodes) node (also s)) (map one w.nodes) w node))

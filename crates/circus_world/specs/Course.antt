@@ -28,14 +28,14 @@ module _ {M : Type 0} where
   pass_step w = record w { steps = w.steps + 1 }
 
   -- something is noted of a node
-  abbrev pub noted : (Standing M → Standing M) → ℕ → WorldState M → WorldState M
-  noted note node w = record w { nodes = option_map_or (λ s. slice_set w.nodes node (note s)) (slice_get w.nodes node) w.nodes }
+  abbrev pub note_at : (Standing M → Standing M) → ℕ → WorldState M → WorldState M
+  note_at note node w = record w { nodes = option_map_or (λ s. slice_set w.nodes node (note s)) (slice_get w.nodes node) w.nodes }
 
   abbrev pub crash_node : ℕ → WorldState M → WorldState M
-  crash_node node w = pass_step (noted (λ s. record s { crashed = Some (w.steps + 1) }) node w)
+  crash_node node w = pass_step (note_at (λ s. record s { crashed = Some (w.steps + 1) }) node w)
 
   abbrev pub told_to_join : ℕ → WorldState M → WorldState M
-  told_to_join node w = noted (λ s. record s { joins = true }) node w
+  told_to_join node w = note_at (λ s. record s { joins = true }) node w
 
   -- a node has made a step, which came to this
   abbrev pub conclude_step : ℕ → Standing M → WorldState M → node_step.Ended M → Stepped M

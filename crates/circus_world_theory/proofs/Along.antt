@@ -28,7 +28,7 @@ use Rattle.circus_world.specs.declared.sent.Sent.{Sent}
 use Rattle.circus_world.specs.declared.cause.LineCause.{LineCause}
 use Rattle.circus_world.specs.declared.cause.LineCause.TheVariants.{NoDatagram}
 use Rattle.circus_world.specs.WorldState.{WorldState, Standing, is_live}
-use Rattle.circus_world.specs.Course.{Stepped, noted, pass_step, crash_node, told_to_join, comes_to, step_line}
+use Rattle.circus_world.specs.Course.{Stepped, note_at, pass_step, crash_node, told_to_join, comes_to, step_line}
 use Rattle.circus_world.specs.Lines.{Leads, Lead}
 use Rattle.circus_world.proofs.ComeLemmas.{delivered_at}
 use Rattle.circus_world.proofs.SlotLemmas.{get_set, get_there}
@@ -45,7 +45,7 @@ use Rattle.circus_world_theory.proofs.True.{ActsTrue}
 
 module _ {M : Type 0} where
   pub noted_at : (note : Standing M → Standing M) (node : ℕ) (w : WorldState M) (s : Standing M) → slice_get w.nodes node ≡ Some s
-      → slice_get (noted note node w).nodes node ≡ Some (note s)
+      → slice_get (note_at note node w).nodes node ≡ Some (note s)
   noted_at note node w s at =
       ap (λ (o : Option (Standing M)). slice_get (option_map_or (λ t. set w.nodes node (note t)) o w.nodes) node) at ∙ get_same w.nodes node (note s) s at
 
@@ -110,7 +110,7 @@ module _ {M : Type 0} (declared : M → Signature) (turn : M → List ValueTree 
   passed_true acts w so_far = record { deployment = so_far.deployment; nodes = so_far.nodes; said = so_far.said }
 
   noted_true : (acts : ℕ → WireActs Purpose) (note : Standing M → Standing M) (node : ℕ) (w : WorldState M) → ((s : Standing M) → (note s).node ≡ s.node)
-      → NodesTrue declared turn first program d acts w → NodesTrue declared turn first program d acts (noted note node w)
+      → NodesTrue declared turn first program d acts w → NodesTrue declared turn first program d acts (note_at note node w)
   noted_true acts note node w same so_far = record {
     deployment = so_far.deployment;
     nodes = λ x t found. by_node x t (slice_get w.nodes node) refl found;

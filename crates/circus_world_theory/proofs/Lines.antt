@@ -20,7 +20,7 @@ use Rattle.circus_world.specs.declared.sent.Sent.{Sent}
 use Rattle.circus_world.specs.declared.cause.LineCause.{LineCause}
 use Rattle.circus_world.specs.declared.cause.LineCause.TheVariants.{NoDatagram}
 use Rattle.circus_world.specs.WorldState.{WorldState, Standing, is_live}
-use Rattle.circus_world.specs.Course.{Stepped, noted, pass_step, crash_node, told_to_join, comes_to, step_line}
+use Rattle.circus_world.specs.Course.{Stepped, note_at, pass_step, crash_node, told_to_join, comes_to, step_line}
 use Rattle.circus_world.specs.Lines.{Leads, Lead}
 use Rattle.circus_world.proofs.ComeLemmas.{datagram_may_come, delivered_at, down_differs}
 use Rattle.circus_world.proofs.SlotLemmas.{get_set, get_there, all_at}
@@ -32,12 +32,12 @@ use Rattle.circus_world_theory.proofs.Worlds.{Stands, IsGiven, IsReal, get_same,
 -- ---- something is noted of a node
 
 module _ {M : Type 0} where
-  noted_at : (note : Standing M → Standing M) (node : ℕ) (w : WorldState M) (s : Standing M) → slice_get w.nodes node ≡ Some s → slice_get (noted note node w).nodes node ≡ Some (note s)
+  noted_at : (note : Standing M → Standing M) (node : ℕ) (w : WorldState M) (s : Standing M) → slice_get w.nodes node ≡ Some s → slice_get (note_at note node w).nodes node ≡ Some (note s)
   noted_at note node w s at =
       ap (λ (o : Option (Standing M)). slice_get (option_map_or (λ t. set w.nodes node (note t)) o w.nodes) node) at ∙ get_same w.nodes node (note s) s at
 
   noted_stands : (d : Deployment) (acts : ℕ → WireActs Purpose) (note : Standing M → Standing M) (node : ℕ) (w : WorldState M) → ((s : Standing M) → (note s).node ≡ s.node)
-      → Stands d acts w → Stands d acts (noted note node w)
+      → Stands d acts w → Stands d acts (note_at note node w)
   noted_stands d acts note node w same so_far = record {
     known = so_far.known;
     sound = noted_sound note node w same so_far.sound;

@@ -13,7 +13,7 @@ use Rattle.circus_pair.specs.Handed.{call_at, return_at}
 use Rattle.circus_pair.specs.Lawful.{AreLawful}
 use Rattle.circus_pair.specs.Sending.{takes_after}
 use Rattle.circus_pair.specs.Standing.{arrival_after}
-use Rattle.circus_pair.specs.TwoEnds.{Arrival, WasSent, arrived_in, handed_over, noted, sent_by}
+use Rattle.circus_pair.specs.TwoEnds.{Arrival, WasSent, arrived_in, handed_over, arrivals_of, sent_by}
 use Rattle.circus_pair.proofs.Following.{arrives_as_owed}
 use Rattle.circus_wire.specs.declared.delivery.Heard.{Heard}
 use Rattle.circus_wire.specs.declared.delivery.Heard.TheVariants.{Dropped, Taken, Called, Returned}
@@ -100,14 +100,14 @@ module _ {M : Type 0} (d : Deployment) (acts : ℕ → WireActs Purpose) (w : Wo
     came = came_sent d acts w so_far sent.from sent.to sent.bytes p from_below to_below differs (all_at (IsGiven d acts) w.sent number sent so_far.sent there) read
 
     -- what arrives by it was handed over
-    handed : (a : Arrival) → noted (arrival_after (start 0 d.format) here p) ≡ a ∷ [] → handed_over 0 yonder a.kind a.call ≡ Some a.message
+    handed : (a : Arrival) → arrivals_of (arrival_after (start 0 d.format) here p) ≡ a ∷ [] → handed_over 0 yonder a.kind a.call ≡ Some a.message
     handed a is =
         let e = start 0 d.format in
         let lawful : AreLawful 0 d.format here = lawful_at d sent.to sent.from s.node.wire (acts sent.to) (so_far.stands sent.to s at) from_below differs in
         let talks = talks_on d.format here yonder (Came p) (so_far.talks sent.to sent.from to_below from_below (λ same. differs (sym same))) came.0 came.1 in
         let arrives = arrives_as_owed (end_after e here) 0 d.format here (record { lawful = lawful; is = refl }) p came.0 in
         last_holds (λ (x : Arrival). handed_over 0 yonder x.kind x.call ≡ Some x.message) (arrived_in e here) a
-        (subst (λ l. All (λ (x : Arrival). handed_over 0 yonder x.kind x.call ≡ Some x.message) (arrived_in e here ++ l)) (ap noted arrives ∙ is)
+        (subst (λ l. All (λ (x : Arrival). handed_over 0 yonder x.kind x.call ≡ Some x.message) (arrived_in e here ++ l)) (ap arrivals_of arrives ∙ is)
         (agree d.format (more here (Came p)) yonder so_far.known talks).0.sent)
 
     heard : heard_from s.node.wire sent.from (Ok p)
@@ -124,7 +124,7 @@ module _ {M : Type 0} (d : Deployment) (acts : ℕ → WireActs Purpose) (w : Wo
           → (caller.node ≡ sent.from) × (call_at 0 yonder caller.number ≡ Some message)
       by_segment (Ok p) read is =
           let arrived = called_is _ sent.from _ (arrival_after (start 0 d.format) here p) caller message (sym (heard p read) ∙ is) in
-          (arrived.0, handed p read (record { kind = 0; call = caller.number; message = message }) (ap noted arrived.1))
+          (arrived.0, handed p read (record { kind = 0; call = caller.number; message = message }) (ap arrivals_of arrived.1))
       by_segment (Err fault) read is = absurd (let clash : ◌≡◌ {A = Heard Purpose} Dropped (Called caller message) = is in cc)
 
   pub return_handed : (call : ℕ) (purpose : Purpose) (message : List ℕ) → heard_from s.node.wire sent.from (reading sent.bytes) ≡ Returned call purpose message
@@ -135,5 +135,5 @@ module _ {M : Type 0} (d : Deployment) (acts : ℕ → WireActs Purpose) (w : Wo
           → (return_at yonder call ≡ Some message) × (purpose_of (pair_of (beginning_of d sent.to)) sent.from (acts sent.to) call ≡ Some purpose)
       by_segment (Ok p) read is =
           let arrived = returned_is (purpose_of (start 0 d.format) sent.from (acts sent.to)) sent.from _ (arrival_after (start 0 d.format) here p) call purpose message (sym (heard p read) ∙ is) in
-          (handed p read (record { kind = 1; call = call; message = message }) (ap noted arrived.0), arrived.1)
+          (handed p read (record { kind = 1; call = call; message = message }) (ap arrivals_of arrived.0), arrived.1)
       by_segment (Err fault) read is = absurd (let clash : ◌≡◌ {A = Heard Purpose} Dropped (Returned call purpose message) = is in cc)

@@ -30,7 +30,7 @@ use Rattle.circus_node.specs.Step as node_step
 use Rattle.circus_world.specs.declared.sent.Sent.{Sent}
 use Rattle.circus_world.specs.WorldState.{WorldState, Standing}
 use Rattle.circus_world.specs.Course as course
-use Rattle.circus_world.specs.Course.{Stepped, noted, pass_step, crash_node, told_to_join, conclude_step, comes_to, step_line}
+use Rattle.circus_world.specs.Course.{Stepped, note_at, pass_step, crash_node, told_to_join, conclude_step, comes_to, step_line}
 use Rattle.circus_world.specs.Seen.Sound.{IsSound}
 use Rattle.circus_world.proofs.SlotLemmas.{get_set, get_there}
 use Rattle.circus_world.proofs.SoundLemmas.{comes_sound}

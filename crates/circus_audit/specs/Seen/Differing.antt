@@ -14,7 +14,7 @@ use Rattle.circus_audit.specs.declared.differing.Replied.{Replied}
 use Rattle.circus_audit.specs.Seen.Answers.{from_some, whole, only_if}
 use Rattle.circus_audit.specs.Seen.Events.{other_behind}
 use Rattle.circus_audit.specs.Seen.Lines.{clock_behind}
-use Rattle.circus_audit.specs.Seen.Values.{outcome_behind, imported}
+use Rattle.circus_audit.specs.Seen.Values.{outcome_behind, procedure_of_import}
 
 -- what each gives, where each gives something
 abbrev pub each_read : {A B : Type 0} → (A → Option B) → List A → Option (List B)
@@ -68,7 +68,7 @@ module _ (nodes : List (List ℕ)) (modules own : ℕ) where
 
   abbrev pub by_ask : List Import → Differing → Option AskRecord → Option Difference
   by_ask imports d None = None
-  by_ask imports d (Some ask) = by_procedure d (imported imports ask.callee ask.procedure)
+  by_ask imports d (Some ask) = by_procedure d (procedure_of_import imports ask.callee ask.procedure)
 
   -- those to an ask of a member, by the imports of its module
   abbrev pub difference_read : List Import → MemberRecord → Differing → Option Difference

@@ -7,7 +7,7 @@ use Rattle.circus_value_text.specs.Reading.{Read, behind, behind_prefix, number_
 use Rattle.circus_value_text.specs.WordReading.{bytes_of}
 use Rattle.circus_audit.specs.declared.noted.Differing.{Differing}
 use Rattle.circus_audit.specs.Seen.Answers.{found, from_some, or_else, whole, only_if}
-use Rattle.circus_audit.specs.Seen.Names.{named, other}
+use Rattle.circus_audit.specs.Seen.Names.{number_of_name, other}
 
 -- bytes, to the end
 abbrev pub addressed_by : ℕ → List ℕ → Option (ℕ × List ℕ)
@@ -25,19 +25,19 @@ bare_event text =
 
 -- another node behind a mark
 abbrev pub other_behind : List ℕ → List (List ℕ) → ℕ → List ℕ → Read ℕ
-other_behind mark nodes own text = behind (behind_prefix mark text) (λ inner. other own (named nodes inner))
+other_behind mark nodes own text = behind (behind_prefix mark text) (λ inner. other own (number_of_name nodes inner))
 
 module _ (nodes : List (List ℕ)) (own : ℕ) where
   -- another node
   abbrev pub other_node : List ℕ → Option (ℕ × List ℕ)
-  other_node text = other own (named nodes text)
+  other_node text = other own (number_of_name nodes text)
 
   -- another node, and bytes
-  abbrev pub addressed : List ℕ → Option (ℕ × List ℕ)
-  addressed text = found (other_node text) addressed_by
+  abbrev pub node_and_bytes : List ℕ → Option (ℕ × List ℕ)
+  node_and_bytes text = found (other_node text) addressed_by
 
   abbrev pub datagram_read : List ℕ → Option Event
-  datagram_read text = option_map (λ r. Datagram r.0 r.1) (addressed text)
+  datagram_read text = option_map (λ r. Datagram r.0 r.1) (node_and_bytes text)
 
   abbrev pub down_read : List ℕ → Option Event
   down_read text = option_map (λ node. Down node) (whole (other_node text))
@@ -53,7 +53,7 @@ module _ (nodes : List (List ℕ)) (own : ℕ) where
       found (number_read 4294967295 text) (λ n rest. only_if (n == number) (from_some (behind_prefix (codes " ") rest) what_read))
 
   abbrev pub give_read : List ℕ → Option Give
-  give_read text = option_map (λ r. record { to = r.0; bytes = r.1 }) (addressed text)
+  give_read text = option_map (λ r. record { to = r.0; bytes = r.1 }) (node_and_bytes text)
 
 -- which ask of which run, and what was replied
 abbrev pub differing_read : List ℕ → Option Differing

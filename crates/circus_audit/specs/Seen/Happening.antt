@@ -31,8 +31,8 @@ open_for kind h = from_some h.last (λ noted. only_if (may_follow kind h.kind) (
 abbrev pub with_last : List Noted → Kind → Noted → Happened
 with_last earlier kind noted = record { earlier = earlier; last = Some noted; kind = kind }
 
-abbrev pub begun : List Noted → Option Event → Happened
-begun earlier event = record { earlier = earlier; last = Some (record { event = event; gives = []; differing = [] }); kind = Gives }
+abbrev pub begin_event : List Noted → Option Event → Happened
+begin_event earlier event = record { earlier = earlier; last = Some (record { event = event; gives = []; differing = [] }); kind = Gives }
 
 abbrev pub differing_added : Happened → List ℕ → Option Happened
 differing_added h text =
@@ -48,7 +48,7 @@ module _ (nodes : List (List ℕ)) (own : ℕ) where
   abbrev pub event_added : Happened → List ℕ → Option Happened
   event_added h text =
       let earlier = all_noted h.earlier h.last in
-      option_map (begun earlier) (event_read nodes own (length earlier) text)
+      option_map (begin_event earlier) (event_read nodes own (length earlier) text)
 
   abbrev pub give_added : Happened → List ℕ → Option Happened
   give_added h text =

@@ -18,8 +18,8 @@ use Rattle.circus_audit.specs.declared.member_line.Performs.{Performs}
 use Rattle.circus_audit.specs.declared.member_line.Asked.{Asked}
 use Rattle.circus_audit.specs.declared.member_line.After.{After}
 use Rattle.circus_audit.specs.Seen.Answers.{found, whole, only_if}
-use Rattle.circus_audit.specs.Seen.Names.{named}
-use Rattle.circus_audit.specs.Seen.Values.{values_behind, outcome_behind, by_shape, imported}
+use Rattle.circus_audit.specs.Seen.Names.{number_of_name}
+use Rattle.circus_audit.specs.Seen.Values.{values_behind, outcome_behind, by_shape, procedure_of_import}
 
 -- a number of four bytes behind a mark
 abbrev pub long_behind : List ℕ → List ℕ → Read ℕ
@@ -31,7 +31,7 @@ word_behind mark text = behind (behind_prefix mark text) (number_read 65535)
 
 -- a name behind a mark
 abbrev pub name_behind : List ℕ → List (List ℕ) → List ℕ → Read ℕ
-name_behind mark names text = behind (behind_prefix mark text) (named names)
+name_behind mark names text = behind (behind_prefix mark text) (number_of_name names)
 
 -- what stands behind this number
 abbrev pub behind_this : ℕ → List ℕ → Option (List ℕ)
@@ -145,7 +145,7 @@ ask_made a procedure arguments state = record {
 -- what it asks for
 abbrev pub wanted_read : Signature → Asked → ℕ → List ℕ → Read AskRecord
 wanted_read s a procedure text =
-    by_shape (imported s.imports a.callee procedure) (λ p. and_then (values_behind (codes " arguments ") p.arguments text)
+    by_shape (procedure_of_import s.imports a.callee procedure) (λ p. and_then (values_behind (codes " arguments ") p.arguments text)
     (λ arguments rest. and_then (state_read s rest) (λ state later. Some (ask_made a procedure arguments state, later))))
 
 abbrev pub ask_parts : List (List ℕ) → Signature → ℕ → ℕ → List ℕ → Read AskRecord
@@ -163,13 +163,13 @@ after_read modules events number text =
     and_then (numbered_step number events text) (λ step a. and_then (clock_behind modules a)
     (λ clock rest. Some (record { step = step; clock = clock }, rest)))
 
-abbrev pub answered : AskRecord → After → Outcome → AskRecord
-answered ask after reply = record ask { reply = Some reply; after = Some after.clock; answered = Some after.step }
+abbrev pub answer_ask : AskRecord → After → Outcome → AskRecord
+answer_ask ask after reply = record ask { reply = Some reply; after = Some after.clock; answered = Some after.step }
 
 abbrev pub reply_by : Signature → AskRecord → After → List ℕ → Read AskRecord
 reply_by s ask after text =
-    by_shape (imported s.imports ask.callee ask.procedure) (λ p. and_then (outcome_behind p text)
-    (λ reply rest. Some (answered ask after reply, rest)))
+    by_shape (procedure_of_import s.imports ask.callee ask.procedure) (λ p. and_then (outcome_behind p text)
+    (λ reply rest. Some (answer_ask ask after reply, rest)))
 
 abbrev pub reply_parts : ℕ → Signature → ℕ → ℕ → AskRecord → List ℕ → Read AskRecord
 reply_parts modules s events number ask text =

@@ -13,8 +13,8 @@ abbrev pub place_of : List (List ℕ) → List ℕ → Option ℕ
 place_of names name = position (λ each. bytes_eq each name) names
 
 -- the number of the name that all of them are
-abbrev pub named : List (List ℕ) → List ℕ → Read ℕ
-named names text = read_meaning (place_of names (take (name_length text) text)) (drop (name_length text) text)
+abbrev pub number_of_name : List (List ℕ) → List ℕ → Read ℕ
+number_of_name names text = read_meaning (place_of names (take (name_length text) text)) (drop (name_length text) text)
 
 -- a number other than this one
 abbrev pub other : ℕ → Read ℕ → Read ℕ

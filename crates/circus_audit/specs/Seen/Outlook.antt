@@ -24,7 +24,7 @@ use Rattle.circus_audit.specs.TextPieces as piece
 use Rattle.circus_audit.specs.Seen.Differing.{ask_named, by_procedure}
 use Rattle.circus_audit.specs.Seen.Performing.{place_behind}
 use Rattle.circus_audit.specs.Seen.Reading.{node_names, own_read, hosted_by, beginning, stage_after}
-use Rattle.circus_audit.specs.Seen.Values.{imported}
+use Rattle.circus_audit.specs.Seen.Values.{procedure_of_import}
 
 -- ---- what a module can do
 
@@ -73,7 +73,7 @@ all_named kept ds = list_all (is_named kept) ds
 
 module _ (nodes : List (List ℕ)) (modules own : ℕ) (imports : List Import) where
   abbrev pub may_answer : ℕ → ℕ → Differing → Bool
-  may_answer callee number d = is_some (by_procedure nodes modules own d (imported imports callee number))
+  may_answer callee number d = is_some (by_procedure nodes modules own d (procedure_of_import imports callee number))
 
   -- a line that names an ask
   abbrev pub answers_if : ℕ → ℕ → ℕ → ℕ → Differing → Bool
@@ -166,8 +166,8 @@ module _ (nodes : List (List ℕ)) (modules own : ℕ) where
   followed_by hosted stage line o (Some lost) = o
 
   -- behind the line of a number, by which a record has come to a stage
-  abbrev pub followed : Option Hosted → Stage → ℕ → Outlook → Outlook
-  followed hosted stage line o = followed_by hosted stage line o o.lost
+  abbrev pub follow_line : Option Hosted → Stage → ℕ → Outlook → Outlook
+  follow_line hosted stage line o = followed_by hosted stage line o o.lost
 
 abbrev pub nothing_expected : Outlook
 nothing_expected = record { expected = []; lost = None }
@@ -181,7 +181,7 @@ line_lost line (Some lost) = lost
 
 module _ (plan : Plan) (own : ℕ) (hosted : Option Hosted) where
   abbrev pub looks : Stage → ℕ → Outlook → Outlook
-  looks stage line o = followed (node_names plan) (length plan.names) own hosted stage line o
+  looks stage line o = follow_line (node_names plan) (length plan.names) own hosted stage line o
 
   -- the first bad line of a text that isn't read, from this line on
   abbrev pub bad_by : (ℕ → Outlook → Stage → ℕ) → ℕ → Outlook → Option Stage → ℕ

@@ -24,8 +24,8 @@ abbrev pub on_with : Performed → Current → After
 on_with p current = On (record p { current = current })
 
 -- the record, where no line is left
-abbrev pub finished : ℕ → ℕ → ℕ → List RunRecord → List ValueTree → After
-finished from since count runs state =
+abbrev pub finish_record : ℕ → ℕ → ℕ → List RunRecord → List ValueTree → After
+finish_record from since count runs state =
     Last (record { phase = joiner.Active from; from = from; active_at = since; count = count; runs = runs; state = state })
 
 abbrev pub with_ask : RunRecord → AskRecord → RunRecord
@@ -39,13 +39,13 @@ with_ended p run = On (record p { runs = p.runs ++ run ∷ []; current = Nothing
 
 -- the member is idle, where its count is that behind its runs
 abbrev pub idles : Signature → Performed → List ℕ → Option After
-idles s p text = only_if (count_after p.from (length p.runs) == p.count) (option_map (finished p.from p.since p.count p.runs) (lines.idle_read s text))
+idles s p text = only_if (count_after p.from (length p.runs) == p.count) (option_map (finish_record p.from p.since p.count p.runs) (lines.idle_read s text))
 
 -- it waits, where its count is that of its run
 abbrev pub waits : Signature → Performed → RunRecord → AskRecord → List ℕ → Option After
 waits s p run ask text =
     from_some (place_behind p.from (length p.runs)) (λ place. only_if (place == p.count)
-    (option_map (finished p.from p.since p.count (p.runs ++ with_ask run ask ∷ [])) (lines.waiting_read s (length run.asks) text)))
+    (option_map (finish_record p.from p.since p.count (p.runs ++ with_ask run ask ∷ [])) (lines.waiting_read s (length run.asks) text)))
 
 module _ (modules : List (List ℕ)) (s : Signature) (events : ℕ) where
   abbrev pub ask_begins : Performed → RunRecord → List ℕ → Option After

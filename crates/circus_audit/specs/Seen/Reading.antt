@@ -29,7 +29,7 @@ use Rattle.circus_audit.specs.declared.stage.Stage.{Stage}
 use Rattle.circus_audit.specs.declared.stage.Stage.TheVariants.{Events, Runs, Watching, Done}
 use Rattle.circus_audit.specs.Seen.Answers.{from_some, or_else, whole, only_if}
 use Rattle.circus_audit.specs.Seen.Breaking.{all_lines}
-use Rattle.circus_audit.specs.Seen.Names.{named, name_at}
+use Rattle.circus_audit.specs.Seen.Names.{number_of_name, name_at}
 use Rattle.circus_audit.specs.Seen.Happening.{all_noted, happened_after}
 use Rattle.circus_audit.specs.Seen.Lines.{phase_read}
 use Rattle.circus_audit.specs.Seen.Performing.{performed_after}
@@ -43,7 +43,7 @@ node_names plan = map host_name plan.deployment.nodes
 
 -- the node of the first line
 abbrev pub own_read : Plan → List ℕ → Option ℕ
-own_read plan line = whole (behind (behind_prefix (codes "circus node 1 ") line) (named (node_names plan)))
+own_read plan line = whole (behind (behind_prefix (codes "circus node 1 ") line) (number_of_name (node_names plan)))
 
 -- ---- stages
 

@@ -81,5 +81,5 @@ abbrev pub import_numbered : List Import → ℕ → Option Import
 import_numbered imports callee = import_of callee imports
 
 -- the procedure of an import
-abbrev pub imported : List Import → ℕ → ℕ → Option ProcedureShape
-imported imports callee number = option_and_then (λ (i : Import). procedure_numbered number i.procedures) (import_of callee imports)
+abbrev pub procedure_of_import : List Import → ℕ → ℕ → Option ProcedureShape
+procedure_of_import imports callee number = option_and_then (λ (i : Import). procedure_numbered number i.procedures) (import_of callee imports)

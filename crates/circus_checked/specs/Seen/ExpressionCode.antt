@@ -98,29 +98,29 @@ form_back form.Sequence = refl
 form_back form.Record = refl
 
 -- a tag and a number, before what there is
-abbrev pub tagged : ℕ → ℕ → Gv → Gv
-tagged tag n g = gcons (gcons (gnum tag) (gnum n)) g
+abbrev pub with_tag : ℕ → ℕ → Gv → Gv
+with_tag tag n g = gcons (gcons (gnum tag) (gnum n)) g
 
 abbrev mutual
   pub expression_to : ExpressionTree → Gv
-  expression_to (either a b) = tagged 0 0 (gcons (expression_to a) (expression_to b))
-  expression_to (both a b) = tagged 1 0 (gcons (expression_to a) (expression_to b))
-  expression_to (equal a b) = tagged 2 0 (gcons (expression_to a) (expression_to b))
-  expression_to (compare o a b) = tagged 3 (order_to o) (gcons (expression_to a) (expression_to b))
-  expression_to (calculate o a b) = tagged 4 (calculation_to o) (gcons (expression_to a) (expression_to b))
-  expression_to (join a b) = tagged 5 0 (gcons (expression_to a) (expression_to b))
-  expression_to (negation a) = tagged 6 0 (gcons (expression_to a) gnil)
-  expression_to (minus a) = tagged 7 0 (gcons (expression_to a) gnil)
-  expression_to (is_arm n a) = tagged 8 n (gcons (expression_to a) gnil)
-  expression_to (length_of a) = tagged 9 0 (gcons (expression_to a) gnil)
-  expression_to (arm n a) = tagged 10 n (gcons (expression_to a) gnil)
-  expression_to (convert k a) = tagged 11 (kind_to k) (gcons (expression_to a) gnil)
-  expression_to (number n) = tagged 12 n gnil
-  expression_to (text bytes) = tagged 13 0 (gcons gnil (bytes_to bytes))
-  expression_to (truth b) = tagged 14 (num (truth_to b)) gnil
-  expression_to (label n) = tagged 15 n gnil
-  expression_to (items f es) = tagged 16 (form_to f) (gcons gnil (list_to es))
-  expression_to (read n ss) = tagged 17 n (gcons gnil (suffixes_to ss))
+  expression_to (either a b) = with_tag 0 0 (gcons (expression_to a) (expression_to b))
+  expression_to (both a b) = with_tag 1 0 (gcons (expression_to a) (expression_to b))
+  expression_to (equal a b) = with_tag 2 0 (gcons (expression_to a) (expression_to b))
+  expression_to (compare o a b) = with_tag 3 (order_to o) (gcons (expression_to a) (expression_to b))
+  expression_to (calculate o a b) = with_tag 4 (calculation_to o) (gcons (expression_to a) (expression_to b))
+  expression_to (join a b) = with_tag 5 0 (gcons (expression_to a) (expression_to b))
+  expression_to (negation a) = with_tag 6 0 (gcons (expression_to a) gnil)
+  expression_to (minus a) = with_tag 7 0 (gcons (expression_to a) gnil)
+  expression_to (is_arm n a) = with_tag 8 n (gcons (expression_to a) gnil)
+  expression_to (length_of a) = with_tag 9 0 (gcons (expression_to a) gnil)
+  expression_to (arm n a) = with_tag 10 n (gcons (expression_to a) gnil)
+  expression_to (convert k a) = with_tag 11 (kind_to k) (gcons (expression_to a) gnil)
+  expression_to (number n) = with_tag 12 n gnil
+  expression_to (text bytes) = with_tag 13 0 (gcons gnil (bytes_to bytes))
+  expression_to (truth b) = with_tag 14 (num (truth_to b)) gnil
+  expression_to (label n) = with_tag 15 n gnil
+  expression_to (items f es) = with_tag 16 (form_to f) (gcons gnil (list_to es))
+  expression_to (read n ss) = with_tag 17 n (gcons gnil (suffixes_to ss))
 
   pub list_to : ExpressionTrees → Gv
   list_to no_expressions = gnil

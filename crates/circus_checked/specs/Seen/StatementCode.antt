@@ -83,19 +83,19 @@ places_back [] = refl
 places_back (p ∷ ps) = λ i. place_back p i ∷ places_back ps i
 
 -- a tag, what isn't a statement, and what are statements
-abbrev pub tagged : ℕ → Gv → Gv → Gv
-tagged tag plain inner = gcons (gcons (gnum tag) plain) inner
+abbrev pub with_tag : ℕ → Gv → Gv → Gv
+with_tag tag plain inner = gcons (gcons (gnum tag) plain) inner
 
 abbrev mutual
   pub statement_to : StatementTree → Gv
-  statement_to (assign p e) = tagged 0 (gcons (place_to p) (expression_to e)) gnil
-  statement_to (append e p bound kind) = tagged 1 (gcons (gcons (place_to p) (expression_to e)) (gcons (gnum bound) (gnum (kind_or_none_to kind)))) gnil
-  statement_to (give es) = tagged 2 (expressions_to es) gnil
-  statement_to (raise n es) = tagged 3 (gcons (gnum n) (expressions_to es)) gnil
-  statement_to (branch e a b) = tagged 4 (expression_to e) (gcons (list_to a) (list_to b))
-  statement_to (repeat e body) = tagged 5 (expression_to e) (gcons (list_to body) gnil)
+  statement_to (assign p e) = with_tag 0 (gcons (place_to p) (expression_to e)) gnil
+  statement_to (append e p bound kind) = with_tag 1 (gcons (gcons (place_to p) (expression_to e)) (gcons (gnum bound) (gnum (kind_or_none_to kind)))) gnil
+  statement_to (give es) = with_tag 2 (expressions_to es) gnil
+  statement_to (raise n es) = with_tag 3 (gcons (gnum n) (expressions_to es)) gnil
+  statement_to (branch e a b) = with_tag 4 (expression_to e) (gcons (list_to a) (list_to b))
+  statement_to (repeat e body) = with_tag 5 (expression_to e) (gcons (list_to body) gnil)
   statement_to (call m n es ps hs) =
-      tagged 6 (gcons (gcons (gnum m) (gnum n)) (gcons (expressions_to es) (places_to ps))) (gcons gnil (handlers_to hs))
+      with_tag 6 (gcons (gcons (gnum m) (gnum n)) (gcons (expressions_to es) (places_to ps))) (gcons gnil (handlers_to hs))
 
   pub list_to : StatementTrees → Gv
   list_to no_statements = gnil

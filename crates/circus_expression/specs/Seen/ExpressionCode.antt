@@ -66,8 +66,8 @@ abbrev pub truth_from : ℕ → Bool
 truth_from zero = false
 truth_from (suc _) = true
 
-abbrev pub tagged : ℕ → Gv → Gv
-tagged tag g = gcons (gcons (gnum tag) gnil) g
+abbrev pub with_tag : ℕ → Gv → Gv
+with_tag tag g = gcons (gcons (gnum tag) gnil) g
 
 abbrev mutual
   pub expression_to : ExpressionTree → Gv
@@ -75,17 +75,17 @@ abbrev mutual
 
   pub kind_to : KindTree → Gv
   kind_to (binary o a b) = gcons (gcons (gnum 0) (gnum (operator_to o))) (gcons (expression_to a) (expression_to b))
-  kind_to (negation e) = tagged 1 (expression_to e)
-  kind_to (minus e) = tagged 2 (expression_to e)
-  kind_to (is_arm e name) = tagged 3 (gcons (named_to name) (expression_to e))
-  kind_to (number value) = tagged 4 (gnum value)
-  kind_to (text bytes) = tagged 5 (bytes_to bytes)
-  kind_to (truth b) = tagged 6 (gnum (truth_to b))
-  kind_to (length_of e) = tagged 7 (expression_to e)
-  kind_to (label t name) = tagged 8 (gcons (type_name_to t) (named_to name))
-  kind_to (arm t name e) = tagged 9 (gcons (gcons (type_name_to t) (named_to name)) (expression_to e))
-  kind_to (items t es) = tagged 10 (gcons (type_name_to t) (list_to es))
-  kind_to (read name ss) = tagged 11 (gcons (named_to name) (suffixes_to ss))
+  kind_to (negation e) = with_tag 1 (expression_to e)
+  kind_to (minus e) = with_tag 2 (expression_to e)
+  kind_to (is_arm e name) = with_tag 3 (gcons (named_to name) (expression_to e))
+  kind_to (number value) = with_tag 4 (gnum value)
+  kind_to (text bytes) = with_tag 5 (bytes_to bytes)
+  kind_to (truth b) = with_tag 6 (gnum (truth_to b))
+  kind_to (length_of e) = with_tag 7 (expression_to e)
+  kind_to (label t name) = with_tag 8 (gcons (type_name_to t) (named_to name))
+  kind_to (arm t name e) = with_tag 9 (gcons (gcons (type_name_to t) (named_to name)) (expression_to e))
+  kind_to (items t es) = with_tag 10 (gcons (type_name_to t) (list_to es))
+  kind_to (read name ss) = with_tag 11 (gcons (named_to name) (suffixes_to ss))
 
   pub list_to : ExpressionTrees → Gv
   list_to no_expressions = gnil

@@ -20,5 +20,5 @@ stays «module» group None = false
 stays «module» group (Some call) = not (is_in_group «module» group call)
 
 -- the call of a slot, where it is in no group
-abbrev pub spared : ℕ → Group → Option HeldCall → Option HeldCall
-spared «module» group slot = if stays «module» group slot then slot else None
+abbrev pub spare_call : ℕ → Group → Option HeldCall → Option HeldCall
+spare_call «module» group slot = if stays «module» group slot then slot else None

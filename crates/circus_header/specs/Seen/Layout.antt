@@ -24,9 +24,9 @@ pub data Layout (A : Type 0) : Type 0 where
   field : Size → ℕ → ℕ → (ℕ → Layout A) → Layout A
 
 -- one layout, and then the one that its meaning calls for
-abbrev pub followed : {A B : Type 0} → Layout A → (A → Layout B) → Layout B
-followed (end x) more = more x
-followed (field size least most next) more = field size least most (λ n. followed (next n) more)
+abbrev pub then_layout : {A B : Type 0} → Layout A → (A → Layout B) → Layout B
+then_layout (end x) more = more x
+then_layout (field size least most next) more = field size least most (λ n. then_layout (next n) more)
 
 -- one field
 abbrev pub one : Size → ℕ → ℕ → Layout ℕ

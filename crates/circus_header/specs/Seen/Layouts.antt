@@ -1,6 +1,6 @@
 -- The layouts of the headers of calls and of returns.
 use Rattle.std.specs.Prelude.{ℕ, zero, suc, ◌+◌, max, List, []}
-use Rattle.circus_header.specs.Seen.Layout.{of_word, of_long, Layout, end, field, followed, numbers}
+use Rattle.circus_header.specs.Seen.Layout.{of_word, of_long, Layout, end, field, then_layout, numbers}
 use Rattle.circus_header.specs.declared.party.Client.{Client}
 use Rattle.circus_header.specs.declared.party.Server.{Server}
 use Rattle.circus_header.specs.declared.call.CallHeader.{CallHeader}
@@ -45,16 +45,16 @@ ask_of root path client server clock = record {
 -- what stands behind the server, the client and the path
 abbrev pub behind_server : ℕ → List ℕ → Client → Server → Layout CallHeader
 behind_server root path client server =
-    followed (clock_layout (max client.number server.number + 1)) (λ clock. end (ask_of root path client server clock))
+    then_layout (clock_layout (max client.number server.number + 1)) (λ clock. end (ask_of root path client server clock))
 
 abbrev pub behind_client : ℕ → List ℕ → Client → Layout CallHeader
-behind_client root path client = followed server_layout (behind_server root path client)
+behind_client root path client = then_layout server_layout (behind_server root path client)
 
 abbrev pub behind_path : ℕ → List ℕ → Layout CallHeader
-behind_path root path = followed client_layout (behind_client root path)
+behind_path root path = then_layout client_layout (behind_client root path)
 
 abbrev pub ask_layout : Layout CallHeader
-ask_layout = field of_word 0 31 (λ root. followed path_layout (behind_path root))
+ask_layout = field of_word 0 31 (λ root. then_layout path_layout (behind_path root))
 
 -- a lookup has no node
 abbrev pub most_node : ℕ → ℕ
@@ -83,15 +83,15 @@ abbrev pub fetch_layout : Layout Call
 fetch_layout = field of_word 0 31 (λ troupe. field of_long 1 4294967295 (λ incarnation. end (Fetch troupe incarnation)))
 
 abbrev pub call_by : ℕ → Layout Call
-call_by zero = followed ask_layout (λ h. end (Ask h))
-call_by (suc zero) = followed request_layout (λ request. end (Ring request))
+call_by zero = then_layout ask_layout (λ h. end (Ask h))
+call_by (suc zero) = then_layout request_layout (λ request. end (Ring request))
 call_by (suc (suc _)) = fetch_layout
 
 abbrev pub call_layout : Layout Call
 call_layout = field of_word 0 2 (λ kind. call_by kind)
 
 abbrev pub return_by : ℕ → Layout ReturnHeader
-return_by zero = followed (clock_layout 1) (λ clock. end (Reply clock))
+return_by zero = then_layout (clock_layout 1) (λ clock. end (Reply clock))
 return_by (suc zero) = field of_long 1 4294967295 (λ incarnation. end (Stale incarnation))
 return_by (suc (suc zero)) = field of_long 0 4294967295 (λ first. end (Before first))
 return_by (suc (suc (suc zero))) = field of_long 0 4294967295 (λ count. end (Snapshot count))

@@ -27,7 +27,7 @@ use Rattle.circus_member_rules.specs.declared.occurrence.Occurrence.TheVariants 
 use Rattle.circus_member_rules.specs.Rules.{ringmaster, request_call, performs_any, may_give, givers, state_request, state_requests, lookup_call}
 use Rattle.circus_member_rules.specs.Step.{is_join}
 use Rattle.circus_member_theory.specs.Past.{Past, booted, followed, now, views_known, nodes_declared_down, is_asking, is_done, taken_in, phase}
-use Rattle.circus_member_theory.specs.Requests.{to_ring, answers_lookup, gone_from, gone, for_what_came, wanted, is_due, due_from, due, is_unanswered, lookups, requests_owed}
+use Rattle.circus_member_theory.specs.Requests.{to_ring, answers_lookup, gone_from, gone_requests, for_what_came, wanted_incarnation, is_due, due_from, due, is_unanswered, lookups, requests_owed}
 use Rattle.circus_world_theory.proofs.Border.Makers.{IsIn, in_both}
 use Rattle.circus_headline_theory.specs.Datagrams.Due.{WasSo, Causes, CallIsDue}
 use Rattle.circus_headline_theory.proofs.Datagrams.Membership.{in_filter, in_map}
@@ -48,24 +48,24 @@ module _ (place : Place) (boot : List View) (begins : Joiner) (first : List Valu
   -- ---- Lookups
 
   in_due_from : (unanswered : ℕ → Bool) (q : Past) (from : ℕ) (views : List View) (troupe : ℕ) → IsIn (due_from place boot begins kept unanswered q from views) troupe
-      → (number : ℕ) × (view : View) × (troupe ≡ from + number) × (slice_get views number ≡ Some view) × (view.incarnation < wanted place boot begins kept troupe q)
+      → (number : ℕ) × (view : View) × (troupe ≡ from + number) × (slice_get views number ≡ Some view) × (view.incarnation < wanted_incarnation place boot begins kept troupe q)
   in_due_from unanswered q from [] troupe at = absurd at
   in_due_from unanswered q from (view ∷ views) troupe at =
       by_test (in_due_from unanswered q (from + 1) views troupe) (is_due place boot begins kept unanswered q from view) refl at
     where
       Found : Type 0
-      Found = (number : ℕ) × (v : View) × (troupe ≡ from + number) × (slice_get (view ∷ views) number ≡ Some v) × (v.incarnation < wanted place boot begins kept troupe q)
+      Found = (number : ℕ) × (v : View) × (troupe ≡ from + number) × (slice_get (view ∷ views) number ≡ Some v) × (v.incarnation < wanted_incarnation place boot begins kept troupe q)
 
-      later_one : ((number : ℕ) × (v : View) × (troupe ≡ (from + 1) + number) × (slice_get views number ≡ Some v) × (v.incarnation < wanted place boot begins kept troupe q)) → Found
+      later_one : ((number : ℕ) × (v : View) × (troupe ≡ (from + 1) + number) × (slice_get views number ≡ Some v) × (v.incarnation < wanted_incarnation place boot begins kept troupe q)) → Found
       later_one f = (let is = f.2 in (suc f.0, f.1, omega (arith, is), f.3, f.4))
 
       here : is_due place boot begins kept unanswered q from view ≡ true → from ≡ troupe → Found
       here is same =
           let at : from ≡ troupe = same in
-          let less = ltb-true view.incarnation (wanted place boot begins kept from q) (and_parts (nat_lt view.incarnation (wanted place boot begins kept from q)) (not (unanswered from)) is).0 in
-          (0, view, omega (arith, at), refl, subst (λ t. view.incarnation < wanted place boot begins kept t q) same less)
+          let less = ltb-true view.incarnation (wanted_incarnation place boot begins kept from q) (and_parts (nat_lt view.incarnation (wanted_incarnation place boot begins kept from q)) (not (unanswered from)) is).0 in
+          (0, view, omega (arith, at), refl, subst (λ t. view.incarnation < wanted_incarnation place boot begins kept t q) same less)
 
-      by_test : (IsIn (due_from place boot begins kept unanswered q (from + 1) views) troupe → (number : ℕ) × (v : View) × (troupe ≡ (from + 1) + number) × (slice_get views number ≡ Some v) × (v.incarnation < wanted place boot begins kept troupe q))
+      by_test : (IsIn (due_from place boot begins kept unanswered q (from + 1) views) troupe → (number : ℕ) × (v : View) × (troupe ≡ (from + 1) + number) × (slice_get views number ≡ Some v) × (v.incarnation < wanted_incarnation place boot begins kept troupe q))
           → (b : Bool) → is_due place boot begins kept unanswered q from view ≡ b → IsIn ((if b then from ∷ [] else []) ++ due_from place boot begins kept unanswered q (from + 1) views) troupe → Found
       by_test later true is (inl same) = here is same
       by_test later true is (inr rest) = later_one (later rest)
@@ -86,7 +86,7 @@ module _ (place : Place) (boot : List View) (begins : Joiner) (first : List Valu
           let troupe_is : f.0 ≡ troupe = (let is = f.2 in omega (arith, is)) in
           let there : slice_get (views_known boot q) troupe ≡ Some f.1 = ap (slice_get (views_known boot q)) (sym troupe_is) ∙ f.3 in
           subst (EffectIsDue q) same
-          (refl, refl, up, subst (λ (v : Option View). IsSomeAnd v (λ view. view.incarnation < wanted place boot begins kept troupe q)) (sym there) f.4)
+          (refl, refl, up, subst (λ (v : Option View). IsSomeAnd v (λ view. view.incarnation < wanted_incarnation place boot begins kept troupe q)) (sym there) f.4)
 
   -- ---- what comes
 
@@ -152,7 +152,7 @@ module _ (place : Place) (boot : List View) (begins : Joiner) (first : List Valu
         subst (λ n. is_among (nodes_declared_down p) n ≡ false) entry.2 (not-true (is_among (nodes_declared_down p) x.node) outer.1),
       )
 
-  gone_due : (p : Past) (step node : ℕ) (e : Effect) → IsIn (gone place boot begins (followed p step (comes.Declared node)) node) e → EffectIsDue (followed p step (comes.Declared node)) e
+  gone_due : (p : Past) (step node : ℕ) (e : Effect) → IsIn (gone_requests place boot begins (followed p step (comes.Declared node)) node) e → EffectIsDue (followed p step (comes.Declared node)) e
   gone_due p step node e at = by_host (slice_get place.troupes node) refl at
     where
       q : Past

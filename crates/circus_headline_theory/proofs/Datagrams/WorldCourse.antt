@@ -25,7 +25,7 @@ use Rattle.circus_schedule.specs.declared.line.Line.{Line}
 use Rattle.circus_schedule.specs.declared.line.Line.TheVariants.{Deliver, Tick, Crash, Down, Join}
 use Rattle.circus_world.specs.declared.sent.Sent.{Sent}
 use Rattle.circus_world.specs.WorldState.{WorldState, Standing, is_live}
-use Rattle.circus_world.specs.Course.{Stepped, noted, pass_step, told_to_join, comes_to, conclude_step}
+use Rattle.circus_world.specs.Course.{Stepped, note_at, pass_step, told_to_join, comes_to, conclude_step}
 use Rattle.circus_world.specs.Lines.{Leads, Lead}
 use Rattle.circus_world.proofs.ComeLemmas.{datagram_may_come, delivered_at, down_differs}
 use Rattle.circus_world.proofs.SlotLemmas.{get_set, get_there, all_at}
@@ -119,7 +119,7 @@ module _ {M : Type 0} (declared : M → Signature) (turn : M → List ValueTree 
   -- ---- something is noted of a node
 
   noted_goes : (p : Past) (acts : WireActs Purpose) (note : Standing M → Standing M) (other : ℕ) (w : WorldState M) → ((s : Standing M) → (note s).node ≡ s.node) → GoesIn p acts w
-      → GoesIn p acts (noted note other w)
+      → GoesIn p acts (note_at note other w)
   noted_goes p acts note other w same h = record { goes = λ t found. by_node t (slice_get w.nodes other) refl found; before = h.before }
     where
       by_node : (t : Standing M) (o : Option (Standing M)) → slice_get w.nodes other ≡ o

@@ -19,7 +19,7 @@ use Rattle.circus_fanout.specs.declared.asked.Asked.{Asked}
 use Rattle.circus_fanout.specs.declared.send.Send.{Send}
 use Rattle.circus_fanout.specs.declared.send.Next.{Next}
 use Rattle.circus_fanout.specs.declared.send.Next.TheVariants as N
-use Rattle.circus_fanout.specs.Asking.{Asking, is_of, sending_to, mark_asked, with_sent, with_calls, is_satisfied, is_due, send_to, calls_for_a_view, next, after_stale, settled}
+use Rattle.circus_fanout.specs.Asking.{Asking, is_of, sending_to, mark_asked, with_sent, with_calls, is_satisfied, is_due, send_to, calls_for_a_view, next, after_stale, all_settled}
 use Rattle.circus_fanout.specs.Asking as asking
 use Rattle.circus_headline_theory.specs.Owed.Fanout.{Act, tells, falls, replies, is_before, is_stale, Fate, uncalled, waits, done, stale, IsCalled, is_done, receivers, receivers_next, known_view, down_nodes, replies_by, after, nodes_called, fate, AreAnswers, IsServed, MayBeCalled, IsOwedBy, CallsWhoIsOwed}
 
@@ -459,7 +459,7 @@ module _ (header : CallHeader) (body : List ℕ) (kind : Kind) (first : View) (g
   same_all p q each [] = refl
   same_all p q each (x ∷ xs) = λ j. each x j && same_all p q each xs j
 
-  closes_is : (acts : List Act) → Answers_ acts → settled (known_view header body kind first gone acts) (down_nodes header body kind first gone acts) (then_ acts)
+  closes_is : (acts : List Act) → Answers_ acts → all_settled (known_view header body kind first gone acts) (down_nodes header body kind first gone acts) (then_ acts)
       ≡ list_all (λ (e : Entry). is_among (down_nodes header body kind first gone acts) e.node || is_done (fate_ acts e.node)) (known_view header body kind first gone acts).entries
   closes_is acts real =
       same_all (asking.is_done (down_nodes header body kind first gone acts) (then_ acts).asked) (λ (e : Entry). is_among (down_nodes header body kind first gone acts) e.node || is_done (fate_ acts e.node))

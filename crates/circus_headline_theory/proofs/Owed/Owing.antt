@@ -11,7 +11,7 @@ use Rattle.circus_member_rules.specs.declared.occurrence.Effect.{Effect}
 use Rattle.circus_member_rules.specs.declared.occurrence.Occurrence.TheVariants as comes
 use Rattle.circus_member_rules.specs.Rules.{ringmaster, lookup_call}
 use Rattle.circus_member_theory.specs.Past.{Past, booted, followed, now, Rises, nodes_declared_down, views_known, required_incarnation}
-use Rattle.circus_member_theory.specs.Requests.{answers_lookup, for_what_came, is_held, wanted, due_from, due, is_unanswered, lookups, requests_owed}
+use Rattle.circus_member_theory.specs.Requests.{answers_lookup, for_what_came, is_held, wanted_incarnation, due_from, due, is_unanswered, lookups, requests_owed}
 use Rattle.circus_member_theory.specs.Returns.{is_before, reply_by}
 
 module _ (place : Place) (boot : List View) (begins : Joiner) (old new : MemberRecord) (step : ℕ) (replies : (call : HeldCall) (r : Past) → now r < step → reply_by place.troupe begins old call r ≡ reply_by place.troupe begins new call r) where
@@ -19,7 +19,7 @@ module _ (place : Place) (boot : List View) (begins : Joiner) (old new : MemberR
   held_same call r below =
       ap (λ o. not (nat_lt call.header.server_incarnation (required_incarnation r)) && not (is_before place.troupe begins old call r) && is_none o) (replies call r below)
 
-  pub wanted_same : (troupe : ℕ) (r : Past) → Rises r → now r < step → wanted place boot begins old troupe r ≡ wanted place boot begins new troupe r
+  pub wanted_same : (troupe : ℕ) (r : Past) → Rises r → now r < step → wanted_incarnation place boot begins old troupe r ≡ wanted_incarnation place boot begins new troupe r
   wanted_same troupe booted rises below = refl
   wanted_same troupe (followed p at (comes.Asked header body sender)) rises below =
       let before : now p < step = omega (arith, rises.1, below) in
@@ -37,13 +37,13 @@ module _ (place : Place) (boot : List View) (begins : Joiner) (old new : MemberR
   wanted_same troupe (followed p at (comes.Declared node)) rises below = wanted_same troupe p rises.0 (omega (arith, rises.1, below))
   wanted_same troupe (followed p at comes.Joins) rises below = wanted_same troupe p rises.0 (omega (arith, rises.1, below))
 
-  due_from_same : (f g : ℕ → Bool) → ((t : ℕ) → f t ≡ g t) → (r : Past) → ((t : ℕ) → wanted place boot begins old t r ≡ wanted place boot begins new t r) → (n : ℕ) (views : List View)
+  due_from_same : (f g : ℕ → Bool) → ((t : ℕ) → f t ≡ g t) → (r : Past) → ((t : ℕ) → wanted_incarnation place boot begins old t r ≡ wanted_incarnation place boot begins new t r) → (n : ℕ) (views : List View)
       → due_from place boot begins old f r n views ≡ due_from place boot begins new g r n views
   due_from_same f g same r wants n [] = refl
   due_from_same f g same r wants n (view ∷ views) =
       λ j. (if nat_lt view.incarnation (wants n j) && not (same n j) then n ∷ [] else []) ++ due_from_same f g same r wants (n + 1) views j
 
-  due_same : (f g : ℕ → Bool) → ((t : ℕ) → f t ≡ g t) → (r : Past) → ((t : ℕ) → wanted place boot begins old t r ≡ wanted place boot begins new t r) → due place boot begins old f r ≡ due place boot begins new g r
+  due_same : (f g : ℕ → Bool) → ((t : ℕ) → f t ≡ g t) → (r : Past) → ((t : ℕ) → wanted_incarnation place boot begins old t r ≡ wanted_incarnation place boot begins new t r) → due place boot begins old f r ≡ due place boot begins new g r
   due_same f g same r wants = ap (λ troupes. if is_among (nodes_declared_down r) ringmaster then [] else troupes) (due_from_same f g same r wants 0 (views_known boot r))
 
   pub unanswered_same : (troupe : ℕ) (r : Past) → Rises r → now r < step → is_unanswered place boot begins old r troupe ≡ is_unanswered place boot begins new r troupe

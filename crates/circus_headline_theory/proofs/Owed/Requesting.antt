@@ -51,7 +51,7 @@ use Rattle.circus_member_theory.proofs.Resting.{at_boot}
 use Rattle.circus_world_theory.proofs.Border.Going.{begun}
 use Rattle.circus_member_theory.specs.Past as past
 use Rattle.circus_member_theory.specs.Past.{Past, booted, followed, now, views_known, nodes_declared_down, required_incarnation, phase}
-use Rattle.circus_member_theory.specs.Requests.{is_request, to_ring, answers_lookup, for_what_came, is_held, wanted, is_due, due_from, due, is_unanswered, lookups, requests_owed}
+use Rattle.circus_member_theory.specs.Requests.{is_request, to_ring, answers_lookup, for_what_came, is_held, wanted_incarnation, is_due, due_from, due, is_unanswered, lookups, requests_owed}
 use Rattle.circus_member_theory.specs.Returns.{first_of, reply_by}
 use Rattle.circus_headline_theory.specs.Owed.Living.{boots, made_in, made_by}
 use Rattle.circus_member_theory.specs.Living.{phase_at_boot, after, MayLive}
@@ -254,7 +254,7 @@ module _ {M : Type 0} (declared : M → Signature) (turn : M → List ValueTree 
 
   -- what is wanted of a troupe behind a past, by a record
   abbrev want_at : MemberRecord → Past → ℕ → Want
-  want_at kept p t = want (wanted place views start kept t p) (is_unanswered place views start kept p t)
+  want_at kept p t = want (wanted_incarnation place views start kept t p) (is_unanswered place views start kept p t)
 
   -- what a member knows, and what it has asked for
   pub record Requests (p : Past) : Type 0 where
@@ -276,7 +276,7 @@ module _ {M : Type 0} (declared : M → Signature) (turn : M → List ValueTree 
       left o t = is_unanswered place views start new p t && not (answers_lookup o t)
 
       abbrev left_at : Occurrence → ℕ → Want
-      left_at o t = want (wanted place views start new t (followed p at o)) (left o t)
+      left_at o t = want (wanted_incarnation place views start new t (followed p at o)) (left o t)
 
       -- as it is handled
       pub record Handles (o : Occurrence) : Type 0 where
@@ -286,10 +286,10 @@ module _ {M : Type 0} (declared : M → Signature) (turn : M → List ValueTree 
         pub made : asked (handle at o m).effects ≡ for_what_came place views start (followed p at o)
 
       module _ (was : m.known.wants ≡ wants_of (want_at new p) 0 views) (replies : (call : HeldCall) → reply_by place.troupe start new call p ≡ option_map reply_message (reply_of m.gathered (index_of place.troupe call.header))) where
-        wants_stay : wants_of (want_at new p) 0 views ≡ wants_of (λ t. want (wanted place views start new t p) (is_unanswered place views start new p t && true)) 0 views
+        wants_stay : wants_of (want_at new p) 0 views ≡ wants_of (λ t. want (wanted_incarnation place views start new t p) (is_unanswered place views start new p t && true)) 0 views
         wants_stay =
-            wants_same (want_at new p) (λ t. want (wanted place views start new t p) (is_unanswered place views start new p t && true))
-            (λ t. ap (want (wanted place views start new t p)) (sym (and_true (is_unanswered place views start new p t)))) 0 views
+            wants_same (want_at new p) (λ t. want (wanted_incarnation place views start new t p) (is_unanswered place views start new p t && true))
+            (λ t. ap (want (wanted_incarnation place views start new t p)) (sym (and_true (is_unanswered place views start new p t)))) 0 views
 
         -- calls that count for nothing here
         handles_asked : (header : CallHeader) (body : List ℕ) (sender : Caller) → Handles (comes.Asked header body sender)
@@ -314,7 +314,7 @@ module _ {M : Type 0} (declared : M → Signature) (turn : M → List ValueTree 
                 (sym (none_either reply_message (reply_of m.gathered (index_of place.troupe header))) ∙ sym (ap is_none (replies (record { header = header; body = body; sender = sender }))))
 
             by_test : (b : Bool) → (if b then (knowing.want_view m.known header.client header.client_incarnation).wants else m.known.wants)
-                ≡ wants_of (λ t. want (if b && nat_eq t header.client then max (wanted place views start new t p) header.client_incarnation else wanted place views start new t p) (is_unanswered place views start new p t && true)) 0 views
+                ≡ wants_of (λ t. want (if b && nat_eq t header.client then max (wanted_incarnation place views start new t p) header.client_incarnation else wanted_incarnation place views start new t p) (is_unanswered place views start new p t && true)) 0 views
             by_test false = was ∙ wants_stay
             by_test true =
                 let change : Want → Want = λ w. want (max w.incarnation header.client_incarnation) w.asked in
@@ -322,10 +322,10 @@ module _ {M : Type 0} (declared : M → Signature) (turn : M → List ValueTree 
                 ∙ with_want_of change (want_at new p) 0 header.client header.client views (omega arith)
                 ∙ wants_same (changed change header.client (want_at new p)) _ (λ t. each t (nat_eq t header.client)) 0 views
               where
-                each : (t : ℕ) (b : Bool) → (if b then want (max (wanted place views start new t p) header.client_incarnation) (is_unanswered place views start new p t) else want_at new p t)
-                    ≡ want (if b then max (wanted place views start new t p) header.client_incarnation else wanted place views start new t p) (is_unanswered place views start new p t && true)
-                each t true = ap (want (max (wanted place views start new t p) header.client_incarnation)) (sym (and_true (is_unanswered place views start new p t)))
-                each t false = ap (want (wanted place views start new t p)) (sym (and_true (is_unanswered place views start new p t)))
+                each : (t : ℕ) (b : Bool) → (if b then want (max (wanted_incarnation place views start new t p) header.client_incarnation) (is_unanswered place views start new p t) else want_at new p t)
+                    ≡ want (if b then max (wanted_incarnation place views start new t p) header.client_incarnation else wanted_incarnation place views start new t p) (is_unanswered place views start new p t && true)
+                each t true = ap (want (max (wanted_incarnation place views start new t p) header.client_incarnation)) (sym (and_true (is_unanswered place views start new p t)))
+                each t false = ap (want (wanted_incarnation place views start new t p)) (sym (and_true (is_unanswered place views start new p t)))
 
         handles_stale : (name : AskName) (server from incarnation : ℕ) → Handles (comes.IsStale name server from incarnation)
         handles_stale name server from incarnation =
@@ -339,10 +339,10 @@ module _ {M : Type 0} (declared : M → Signature) (turn : M → List ValueTree 
               made = no_call_again m m.known name from incarnation (asking_of m.asks name);
             }
           where
-            each : (t : ℕ) (b : Bool) → (if b then want (max (wanted place views start new t p) incarnation) (is_unanswered place views start new p t) else want_at new p t)
-                ≡ want (if b then max (wanted place views start new t p) incarnation else wanted place views start new t p) (is_unanswered place views start new p t && true)
-            each t true = ap (want (max (wanted place views start new t p) incarnation)) (sym (and_true (is_unanswered place views start new p t)))
-            each t false = ap (want (wanted place views start new t p)) (sym (and_true (is_unanswered place views start new p t)))
+            each : (t : ℕ) (b : Bool) → (if b then want (max (wanted_incarnation place views start new t p) incarnation) (is_unanswered place views start new p t) else want_at new p t)
+                ≡ want (if b then max (wanted_incarnation place views start new t p) incarnation else wanted_incarnation place views start new t p) (is_unanswered place views start new p t && true)
+            each t true = ap (want (max (wanted_incarnation place views start new t p) incarnation)) (sym (and_true (is_unanswered place views start new p t)))
+            each t false = ap (want (wanted_incarnation place views start new t p)) (sym (and_true (is_unanswered place views start new p t)))
 
         handles_told : (request : Request) (table : Table) → Handles (comes.Told request table)
         handles_told request table =
@@ -356,7 +356,7 @@ module _ {M : Type 0} (declared : M → Signature) (turn : M → List ValueTree 
             }
           where
             by_lookup : (b : Bool) → let k : Knowing = if b then knowing.note_answer m.known table.view.troupe else m.known in
-                k.wants ≡ wants_of (λ t. want (wanted place views start new t p) (is_unanswered place views start new p t && not (b && nat_eq t table.view.troupe))) 0 views
+                k.wants ≡ wants_of (λ t. want (wanted_incarnation place views start new t p) (is_unanswered place views start new p t && not (b && nat_eq t table.view.troupe))) 0 views
             by_lookup false = was ∙ wants_stay
             by_lookup true =
                 let change : Want → Want = λ w. want w.incarnation false in
@@ -364,9 +364,9 @@ module _ {M : Type 0} (declared : M → Signature) (turn : M → List ValueTree 
                 ∙ with_want_of change (want_at new p) 0 table.view.troupe table.view.troupe views (omega arith)
                 ∙ wants_same (changed change table.view.troupe (want_at new p)) _ (λ t. each t (nat_eq t table.view.troupe)) 0 views
               where
-                each : (t : ℕ) (b : Bool) → (if b then want (wanted place views start new t p) false else want_at new p t) ≡ want (wanted place views start new t p) (is_unanswered place views start new p t && not b)
-                each t true = ap (want (wanted place views start new t p)) (sym (and_false (is_unanswered place views start new p t)))
-                each t false = ap (want (wanted place views start new t p)) (sym (and_true (is_unanswered place views start new p t)))
+                each : (t : ℕ) (b : Bool) → (if b then want (wanted_incarnation place views start new t p) false else want_at new p t) ≡ want (wanted_incarnation place views start new t p) (is_unanswered place views start new p t && not b)
+                each t true = ap (want (wanted_incarnation place views start new t p)) (sym (and_false (is_unanswered place views start new p t)))
+                each t false = ap (want (wanted_incarnation place views start new t p)) (sym (and_true (is_unanswered place views start new p t)))
 
             by_join : (b : Bool) (j : Joiner) → let kept : MemberRecord = if b then taken_in table (record m.performing.kept { phase = j }) else record m.performing.kept { phase = j } in
                 kept.phase ≡ (if b && past.is_asking j then past.taken_in table else j)

@@ -35,7 +35,7 @@ use Rattle.circus_member_rules.specs.Step.{is_join, reply_of_run}
 use Rattle.circus_member_theory.specs.Past.{Past, booted, followed, now, views_known, nodes_declared_down, required_incarnation, phase}
 use Rattle.circus_member_theory.specs.Asks.{knows, open_asks}
 use Rattle.circus_member_theory.specs.Made.{asks, requests}
-use Rattle.circus_member_theory.specs.Requests.{wanted}
+use Rattle.circus_member_theory.specs.Requests.{wanted_incarnation}
 use Rattle.circus_member_theory.specs.Returns.{first_of, run_of, has_ended}
 use Rattle.circus_member_theory.specs.Snapshots.{runs_before, began}
 
@@ -91,7 +91,7 @@ module _ (place : Place) (boot : List View) (begins : Joiner) (first : List Valu
   -- what makes a request to the Ringmaster due. Lookup: a later view is wanted than is known. Join: the member was told to join.
   -- Active: it is active from that count on. Gone: the node was declared down, and the known view of its troupe has it
   abbrev pub Causes : Request → Past → Type 0
-  Causes (asks_for.Lookup troupe) q = IsSomeAnd (slice_get (views_known boot q) troupe) (λ view. view.incarnation < wanted place boot begins kept troupe q)
+  Causes (asks_for.Lookup troupe) q = IsSomeAnd (slice_get (views_known boot q) troupe) (λ view. view.incarnation < wanted_incarnation place boot begins kept troupe q)
   Causes (asks_for.Join troupe node) (followed p step comes.Joins) = (troupe ≡ place.troupe) × (node ≡ place.node)
   Causes (asks_for.Active troupe node count) (followed p step (comes.Restored state behind)) =
       (troupe ≡ place.troupe) × (node ≡ place.node) × (is_active (phase begins p) ≡ false) × (phase begins (followed p step (comes.Restored state behind)) ≡ phases.Active count)

@@ -10,7 +10,7 @@ use Rattle.circus_collate.specs.declared.kind.Kind.{Kind}
 use Rattle.circus_collate.specs.declared.view.Entry.{Entry}
 use Rattle.circus_collate.specs.declared.view.View.{View}
 use Rattle.circus_collate.specs.Expecting.{has_node}
-use Rattle.circus_fanout.specs.Asking.{Asking, begin_asking, calls_for_a_view, with_view, with_reply, with_before, with_stale, next, settled}
+use Rattle.circus_fanout.specs.Asking.{Asking, begin_asking, calls_for_a_view, with_view, with_reply, with_before, with_stale, next, all_settled}
 use Rattle.circus_fanout.specs.declared.send.Send.{Send}
 use Rattle.circus_fanout.specs.declared.send.Next.{Next}
 use Rattle.circus_fanout.specs.declared.send.Next.TheVariants as N
@@ -158,7 +158,7 @@ module _ (header : CallHeader) (body : List ℕ) (kind : Kind) (first : View) (g
     pub only : (act : Act) (before : List Act) (node : ℕ) → acts ≡ act ∷ before → is_among (nodes_called acts) node ≡ true
         → (has_node (known_view acts) node ≡ true) × (is_among (down_nodes before) node ≡ false) × IsOwedBy act (known_view acts) node (fate before node)
     -- it is closed as each entry is down, or has answered with a reply or that the call is before its first one
-    pub closes : settled (known_view acts) (down_nodes acts) (after acts)
+    pub closes : all_settled (known_view acts) (down_nodes acts) (after acts)
         ≡ list_all (λ (entry : Entry). is_among (down_nodes acts) entry.node || is_done (fate acts entry.node)) (known_view acts).entries
     -- and what was said to it are the replies, in order
     pub said : (after acts).said ≡ replies_by acts

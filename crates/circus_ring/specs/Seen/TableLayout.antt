@@ -1,6 +1,6 @@
 -- The layout of a table.
 use Rattle.std.specs.Prelude.{ℕ, zero, suc, List, [], ◌∷◌, ◌++◌}
-use Rattle.circus_header.specs.Seen.Layout.{of_word, of_long, Layout, end, field, followed}
+use Rattle.circus_header.specs.Seen.Layout.{of_word, of_long, Layout, end, field, then_layout}
 use Rattle.circus_collate.specs.declared.view.Since.TheVariants.{Joining, From}
 use Rattle.circus_collate.specs.declared.view.Entry.{Entry}
 use Rattle.circus_collate.specs.declared.table.Table.{Table}
@@ -29,7 +29,7 @@ entry_layout =
 -- as many entries as are said, behind others that are there already
 abbrev pub entries_layout : ℕ → List Entry → Layout (List Entry)
 entries_layout zero done = end done
-entries_layout (suc count) done = followed entry_layout (λ e. entries_layout count (done ++ e ∷ []))
+entries_layout (suc count) done = then_layout entry_layout (λ e. entries_layout count (done ++ e ∷ []))
 
 abbrev pub table_of : ℕ → ℕ → ℕ → List Entry → Table
 table_of result troupe incarnation entries =
@@ -38,4 +38,4 @@ table_of result troupe incarnation entries =
 abbrev pub table_layout : Layout Table
 table_layout =
     field of_word 0 3 (λ result. field of_word 0 31 (λ troupe. field of_long 1 4294967295 (λ incarnation. field of_word 0 16 (λ count.
-    followed (entries_layout count []) (λ entries. end (table_of result troupe incarnation entries))))))
+    then_layout (entries_layout count []) (λ entries. end (table_of result troupe incarnation entries))))))

@@ -9,7 +9,7 @@ use Rattle.circus_segment.specs.declared.fault.SegmentFault.{SegmentFault}
 use Rattle.circus_exchange.specs.declared.exchange.Exchange.{Exchange}
 use Rattle.circus_exchange.specs.declared.taken.Arrived.{Arrived}
 use Rattle.circus_exchange.specs.declared.taken.Arrived.TheVariants.{Nothing, ArrivedCall, ArrivedReturn}
-use Rattle.circus_exchange.specs.Exchange.{start, takes, arrived_after, ticked}
+use Rattle.circus_exchange.specs.Exchange.{start, takes, arrived_after, count_tick}
 use Rattle.circus_exchange.proofs.Ties.{equal}
 use Rattle.circus_pair.specs.Taken.{has_arrived, message_in}
 use Rattle.circus_pair.specs.Acts.{Act, Call, Return, Came, Tick, Stop, Acts, more, end_after, taken_by, arrives_by}
@@ -81,7 +81,7 @@ module _ {P : Type 0} where
 
   ticked_same : (p : PeerState P) → (peer_ticked p).exchange.stopped ≡ p.exchange.stopped
   ticked_same p =
-      elim p.exchange.stopped as (λ b. let q : PeerState P = if b then p else record p { exchange = ticked p.exchange } in q.exchange.stopped ≡ p.exchange.stopped) [
+      elim p.exchange.stopped as (λ b. let q : PeerState P = if b then p else record p { exchange = count_tick p.exchange } in q.exchange.stopped ≡ p.exchange.stopped) [
         | true ↦ refl
         | false ↦ (lasts_ticked p.exchange).stopped
       ]

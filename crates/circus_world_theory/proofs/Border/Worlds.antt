@@ -25,7 +25,7 @@ use Rattle.circus_schedule.specs.declared.line.Line.TheVariants.{Deliver, Tick, 
 use Rattle.circus_world.specs.declared.sent.Sent.{Sent}
 use Rattle.circus_world.specs.WorldState.{WorldState, Standing, is_live}
 use Rattle.circus_world.specs.Course as course
-use Rattle.circus_world.specs.Course.{Stepped, noted, pass_step, crash_node, told_to_join, conclude_step, comes_to, step_line}
+use Rattle.circus_world.specs.Course.{Stepped, note_at, pass_step, crash_node, told_to_join, conclude_step, comes_to, step_line}
 use Rattle.circus_world.specs.Lines.{Leads, Lead}
 use Rattle.circus_world.proofs.ComeLemmas.{datagram_may_come, delivered_at, down_differs}
 use Rattle.circus_world.proofs.SlotLemmas.{get_set, get_there, all_at}
@@ -94,7 +94,7 @@ module _ {M : Type 0} (declared : M → Signature) (turn : M → List ValueTree 
   -- ---- something is noted of a node
 
   noted_border : (acts : ℕ → WireActs Purpose) (note : Standing M → Standing M) (node : ℕ) (w : WorldState M) → ((s : Standing M) → (note s).node ≡ s.node) → AreAtBorder acts w
-      → AreAtBorder acts (noted note node w)
+      → AreAtBorder acts (note_at note node w)
   noted_border acts note node w same borders x t found = by_node (slice_get w.nodes node) refl found
     where
       by_node : (o : Option (Standing M)) → slice_get w.nodes node ≡ o → slice_get (option_map_or (λ s. set w.nodes node (note s)) o w.nodes) x ≡ Some t

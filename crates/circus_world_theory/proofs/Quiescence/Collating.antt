@@ -8,7 +8,7 @@ use Rattle.circus_value.specs.Among.{is_among}
 use Rattle.circus_collate.specs.declared.giving.Said.{Said}
 use Rattle.circus_collate.specs.declared.kind.Kind.{Kind}
 use Rattle.circus_collate.specs.declared.kind.Kind.TheVariants as K
-use Rattle.circus_collate.specs.Giving.{first_place, is_from, passes_at, first_from, all_have_said, counts, votes, have_equal, has_majority, has_number, majority, reached, at_least, first, first_difference, unanimous, given}
+use Rattle.circus_collate.specs.Giving.{first_place, is_from, passes_at, first_from, all_have_said, counts, votes, have_equal, has_majority, has_number, majority, reached, at_least, first, first_difference, unanimous, place_of_value}
 use Rattle.circus_collate.proofs.Places.{first_place-nothing, both_pass}
 use Rattle.circus_collate.proofs.Reaching.{found_at, not_found, majority_given, number_given}
 
@@ -113,7 +113,7 @@ module _ {V : Type 0} (eq : V → V → Bool) (laws : IsEquivalence eq) (nodes :
         chosen true h = refl
         chosen false h = absurd cc
 
-    pub all_given : (kind : Kind) (down : List ℕ) → IsWithin kind (length nodes) → IsSome (given eq (λ _. nodes) said kind down)
+    pub all_given : (kind : Kind) (down : List ℕ) → IsWithin kind (length nodes) → IsSome (place_of_value eq (λ _. nodes) said kind down)
     all_given K.First down within = first_given
     all_given K.Watchdog down within = first_given
     all_given K.Unanimous down within = unanimous_given down
@@ -146,7 +146,7 @@ module _ {V : Type 0} (eq : V → V → Bool) (expected : V → List ℕ) (nodes
   unfolding has_number
   number_alike number place = passes_alike _ _ place (λ s is. ap (λ ns. leb number (votes eq (take (place + 1) said) ns s.value)) is)
 
-  pub given_alike : (kind : Kind) (down : List ℕ) → given eq expected said kind down ≡ given eq (λ _. nodes) said kind down
+  pub given_alike : (kind : Kind) (down : List ℕ) → place_of_value eq expected said kind down ≡ place_of_value eq (λ _. nodes) said kind down
   unfolding unanimous majority reached at_least
   given_alike K.First down = refl
   given_alike K.Watchdog down = refl

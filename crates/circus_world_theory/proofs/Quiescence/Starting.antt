@@ -9,7 +9,7 @@ use Rattle.circus_value.specs.Among.{is_among}
 use Rattle.circus_header.specs.declared.answer.Reply.{Reply}
 use Rattle.circus_header.specs.ReplyEquality.{reply_eq, reply_eq_equiv}
 use Rattle.circus_collate.specs.Expecting.{expected_nodes, performs}
-use Rattle.circus_collate.specs.Giving.{is_from, given}
+use Rattle.circus_collate.specs.Giving.{is_from, place_of_value}
 use Rattle.circus_collate.specs.Collating.{answer, collate}
 use Rattle.circus_fanout.specs.Asking.{Asking, index_of}
 use Rattle.circus_fanout.specs.Knowing.{Knowing}
@@ -114,7 +114,7 @@ module _ (root client client_index procedure : ℕ) (path clock body : List ℕ)
         same = λ one other s t at at_t. like_same s.value t.value (all_at (λ (x : Said HeldCall). Like x.value) said one s likes at) (all_at (λ (x : Said HeldCall). Like x.value) said other t likes at_t);
       } in
       let alike = given_alike is_same_call (expected_callers views) founders said (λ place s at. expected s.value (all_at (λ (x : Said HeldCall). Like x.value) said place s likes at)) kind down in
-      value_there said (given is_same_call (expected_callers views) said kind down) (subst (λ (o : Option ℕ). IsSome o) (sym alike) (all_given is_same_call same_call_equiv founders said all kind down within))
+      value_there said (place_of_value is_same_call (expected_callers views) said kind down) (subst (λ (o : Option ℕ). IsSome o) (sym alike) (all_given is_same_call same_call_equiv founders said all kind down within))
       (λ place is. given_said is_same_call (expected_callers views) said kind down place is)
 
 -- ---- replies
@@ -134,7 +134,7 @@ value_so k a n t view some within each reply same =
     let given_ = all_given reply_eq reply_eq_equiv t.founders a.said all a.kind k.down within in
     subst (λ (o : Option View). IsSome (option_map_or (λ v. answer_in a (collate reply_eq (expected_nodes v index) k.down a.said a.kind)) o None)) (sym view)
     (subst (λ nodes. IsSome (answer_in a (collate reply_eq nodes k.down a.said a.kind))) (sym (expected_founders n index t))
-    (by_given t.founders (given reply_eq (λ _. t.founders) a.said a.kind k.down) given_ (λ place is. given_said reply_eq (λ _. t.founders) a.said a.kind k.down place is) _))
+    (by_given t.founders (place_of_value reply_eq (λ _. t.founders) a.said a.kind k.down) given_ (λ place is. given_said reply_eq (λ _. t.founders) a.said a.kind k.down place is) _))
   where
     by_given : (founders : List ℕ) (o : Option ℕ) → IsSome o → ((place : ℕ) → o ≡ Some place → place < length a.said) → (other : Option ℕ) → IsSome (answer_in a (answer o other))
     by_given founders None is below other = absurd cc

@@ -10,7 +10,7 @@ use Rattle.circus_segment.specs.Segment.{Piece, reading}
 use Rattle.circus_segment.specs.declared.fault.SegmentFault.{SegmentFault}
 use Rattle.circus_collate.specs.declared.deployment.Deployment.{Deployment}
 use Rattle.circus_exchange.specs.Limits.{never_used}
-use Rattle.circus_exchange.specs.Exchange.{takes, arrived_after, ticked}
+use Rattle.circus_exchange.specs.Exchange.{takes, arrived_after, count_tick}
 use Rattle.circus_exchange.specs.declared.taken.Arrived.{Arrived}
 use Rattle.circus_exchange.specs.declared.taken.Arrived.TheVariants.{Nothing, ArrivedCall, ArrivedReturn}
 use Rattle.circus_header.specs.declared.answer.ReturnHeader.{ReturnHeader}
@@ -86,7 +86,7 @@ module _ (f : PeerState Purpose → PeerState Purpose) (keeps : (p : PeerState P
 ticked_peer : (p : PeerState Purpose) (n : ℕ) → has_call p.exchange n ≡ true → has_call (peer_ticked p).exchange n ≡ true
 ticked_peer p n is = by_test p.exchange.stopped
   where
-    by_test : (b : Bool) → let q : PeerState Purpose = if b then p else record p { exchange = ticked p.exchange } in has_call q.exchange n ≡ true
+    by_test : (b : Bool) → let q : PeerState Purpose = if b then p else record p { exchange = count_tick p.exchange } in has_call q.exchange n ≡ true
     by_test true = is
     by_test false = ticked_has p.exchange n is
 

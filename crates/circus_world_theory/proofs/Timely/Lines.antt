@@ -28,7 +28,7 @@ use Rattle.circus_schedule.specs.declared.line.Line.{Line}
 use Rattle.circus_schedule.specs.declared.line.Line.TheVariants.{Deliver, Tick, Crash, Down, Join}
 use Rattle.circus_world.specs.declared.sent.Sent.{Sent}
 use Rattle.circus_world.specs.WorldState.{WorldState, Standing, is_live}
-use Rattle.circus_world.specs.Course.{Stepped, noted, pass_step, told_to_join, comes_to, conclude_step, step_line}
+use Rattle.circus_world.specs.Course.{Stepped, note_at, pass_step, told_to_join, comes_to, conclude_step, step_line}
 use Rattle.circus_world.specs.Lines.{Leads, Lead}
 use Rattle.circus_world.proofs.ComeLemmas.{delivered_at}
 use Rattle.circus_world.proofs.SlotLemmas.{get_set, get_there}
@@ -146,7 +146,7 @@ module _ {M : Type 0} (declared : M → Signature) (turn : M → List ValueTree 
   -- ---- something is noted of a node
 
   noted_lives : (p : Past) (note : Standing M → Standing M) (other : ℕ) (w : WorldState M) → ((s : Standing M) → (note s).node ≡ s.node) → LivesIn p w
-      → LivesIn p (noted note other w)
+      → LivesIn p (note_at note other w)
   noted_lives p note other w same h =
       record {
         lives = λ t found. by_node (λ (n : NodeState M). IsAlive p n) h.lives t (slice_get w.nodes other) refl found;

@@ -13,7 +13,7 @@ use Rattle.circus_exchange.specs.declared.exchange.Exchange.{Exchange}
 use Rattle.circus_exchange.specs.declared.taken.Arrived.{Arrived}
 use Rattle.circus_exchange.specs.declared.taken.Arrived.TheVariants.{Nothing, ArrivedCall, ArrivedReturn}
 use Rattle.circus_exchange.specs.Inbox.{Arriving, part_of, is_new, count_with, completes, data_with, data_up_to, with_part, parts_with, add_segment}
-use Rattle.circus_exchange.specs.Exchange.{start, send_call, send_return, takes, call_reached, return_reached, end_call, return_added, after_taken, after, arrived_of_taken, arrived_after, ticked}
+use Rattle.circus_exchange.specs.Exchange.{start, send_call, send_return, takes, call_reached, return_reached, end_call, return_added, after_taken, after, arrived_of_taken, arrived_after, count_tick}
 use Rattle.circus_pair.proofs.Taking.{by_segment, call_acknowledged_leaves, return_acknowledged_leaves, call_segment_leaves, return_segment_leaves}
 
 -- ---- messages that arrive in parts
@@ -106,8 +106,8 @@ pub gathers_returned : (e : Exchange) (call : ℕ) (message : List ℕ) → Gath
 unfolding send_return
 gathers_returned e call message h = record { calls = h.calls; returns = h.returns }
 
-pub gathers_ticked : (e : Exchange) → Gathers e → Gathers (ticked e)
-unfolding ticked
+pub gathers_ticked : (e : Exchange) → Gathers e → Gathers (count_tick e)
+unfolding count_tick
 gathers_ticked e h = record { calls = h.calls; returns = h.returns }
 
 -- what a segment completes

@@ -12,7 +12,7 @@ use Rattle.circus_exchange.specs.declared.exchange.Exchange.{Exchange}
 use Rattle.circus_exchange.specs.declared.progress.Progress.{Progress}
 use Rattle.circus_exchange.specs.declared.taken.Arrived.TheVariants.{Nothing, ArrivedCall, ArrivedReturn}
 use Rattle.circus_exchange.specs.Inbox.{Arriving, front, progress_so_far, fits, part_of, is_there, has, has_with, is_new, count_with, completes, data_with, data_up_to, add_segment}
-use Rattle.circus_exchange.specs.Exchange.{is_whole, send_call, send_return, takes, call_reached, return_reached, end_call, return_added, after_taken, after, arrived_of_taken, arrived_after, ticked}
+use Rattle.circus_exchange.specs.Exchange.{is_whole, send_call, send_return, takes, call_reached, return_reached, end_call, return_added, after_taken, after, arrived_of_taken, arrived_after, count_tick}
 use Rattle.circus_exchange.proofs.Ties.{equal, nat_ties}
 use Rattle.circus_pair.proofs.Taking.{by_segment, takes_call_segment, call_acknowledged_leaves, return_acknowledged_leaves, call_segment_leaves, return_segment_leaves}
 
@@ -122,8 +122,8 @@ pub returned_has : (e : Exchange) (call : ℕ) (message : List ℕ) (n : ℕ) �
 unfolding send_return
 returned_has e call message n is = is
 
-pub ticked_has : (e : Exchange) (n : ℕ) → has_call e n ≡ true → has_call (ticked e) n ≡ true
-unfolding ticked
+pub ticked_has : (e : Exchange) (n : ℕ) → has_call e n ≡ true → has_call (count_tick e) n ≡ true
+unfolding count_tick
 ticked_has e n is = is
 
 module _ (e : Exchange) (s : Piece) (within : s.number ≤ s.total) where

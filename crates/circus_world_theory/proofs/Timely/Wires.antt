@@ -8,7 +8,7 @@ use Rattle.circus_collate.specs.declared.deployment.Deployment.{Deployment}
 use Rattle.circus_segment.specs.Segment.{Piece, reading}
 use Rattle.circus_segment.specs.declared.fault.SegmentFault.{SegmentFault}
 use Rattle.circus_exchange.specs.Limits.{never_used}
-use Rattle.circus_exchange.specs.Exchange.{takes, arrived_after, ticked}
+use Rattle.circus_exchange.specs.Exchange.{takes, arrived_after, count_tick}
 use Rattle.circus_exchange.specs.declared.taken.Arrived.{Arrived}
 use Rattle.circus_exchange.specs.declared.taken.Arrived.TheVariants.{Nothing, ArrivedCall, ArrivedReturn}
 use Rattle.circus_wire.specs.declared.delivery.Heard.TheVariants.{Dropped}
@@ -63,7 +63,7 @@ changed_gathers f keeps w node all = all_changed PeerGathers f keeps w.peers (pl
 ticked_peer : (p : PeerState Purpose) → PeerGathers p → PeerGathers (peer_ticked p)
 ticked_peer p is = by_test p.exchange.stopped
   where
-    by_test : (b : Bool) → PeerGathers (if b then p else record p { exchange = ticked p.exchange })
+    by_test : (b : Bool) → PeerGathers (if b then p else record p { exchange = count_tick p.exchange })
     by_test true = is
     by_test false = gathers_ticked p.exchange is
 

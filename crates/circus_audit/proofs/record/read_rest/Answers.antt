@@ -1,6 +1,6 @@
 use Rattle.std.proofs.Common.{◌≡◌, ◌∙◌, ◌+◌, ◌-◌, length, map, drop, Err, sym, subst, ap, arith, length-drop}
 use Rattle.circus_record.specs.Naming.{host_name}
-use Rattle.circus_audit.specs.Seen.Outlook.{followed, bad_behind}
+use Rattle.circus_audit.specs.Seen.Outlook.{follow_line, bad_behind}
 use Rattle.circus_audit.specs.Seen.Read.{IsLine}
 use Rattle.circus_audit.specs.Seen.Reading.{rest_read, fault_at}
 use Rattle.circus_audit.proofs.Looking.{bad_later, bad_end, lost_line}
@@ -17,7 +17,7 @@ loop-end-preserved c =
     let few = line_first rest end (sym c.in-Some.ensures) in
     let shorter : length (drop (end + 1) rest) ≡ length rest - (end + 1) = length-drop (end + 1) rest in
     let left = ap length c.rest_at-rest.ensures in
-    let looked = c.in_ok-outlook.ensures ∙ (λ i. followed (map host_name (c.as_slice.ensures i)) (c.len.ensures i) own hosted c.in-Ok.next c.loop-end.line c.loop-end.outlook) in
+    let looked = c.in_ok-outlook.ensures ∙ (λ i. follow_line (map host_name (c.as_slice.ensures i)) (c.len.ensures i) own hosted c.in-Ok.next c.loop-end.line c.loop-end.outlook) in
     record {
       read = c.loop-end.invariant.read ∙ rest_more plan own hosted c.loop-end.stage c.in-Ok.next rest end (sym c.in-Some.ensures) c.in-Ok.ensures ∙ ap (rest_read plan own hosted c.in-Ok.next) (sym c.rest_at-rest.ensures);
       bad =

@@ -6,7 +6,7 @@ use Rattle.circus_expression.specs.ExpressionTree.{expression, suffix_trees}
 use Rattle.circus_expression.specs.ExpressionTree as tree
 use Rattle.circus_expression.specs.ExpressionOf.{tree_of, kind_tree}
 use Rattle.circus_expression.specs.ExpressionReading.{operand}
-use Rattle.circus_expression.specs.Standing.{shown, stands_for, lean_left, type_place}
+use Rattle.circus_expression.specs.Standing.{show_as, stands_for, lean_left, type_place}
 use Rattle.circus_expression.proofs.Stands.{stopped_here, on_ok, chain_alone, chain_linked, links_end, links_go_on, further_links_deep, further_links_more, operand_expression, operand_conjunct, operand_sum, operand_term, negated_missed, negated_deep, negated_is, factor_missed, factor_deep, factor_is, relation_is, related_named, related_compared, related_alone, compared_is, primary_number, primary_text, primary_true, primary_false, primary_parenthesis, primary_length, primary_named, length_deep, length_is, required_seen, required_missed, argument_deep, argument_is, subscript_deep, subscript_is, named_is, behind_hash, behind_dot, behind_neither, dotted_hash, dotted_more, built_items, built_label, built_arm, any_none, any_some, suffixes_subscript, suffixes_field, further_none, further_deep, further_more, list_deep, list_is, items_none, items_some, items_step, items_shorter, items_end}
 use Rattle.circus_expression.proofs.reading.+reading.Goals as goal
 
@@ -29,35 +29,35 @@ link-returns-in-Some t c =
 
 pub further_link-returns-then-levels-eq0 : goal.further_link-returns-then-levels-eq0
 further_link-returns-then-levels-eq0 t c =
-    if_ok c.stop_linked.result _ _ (λ read is. ap (shown (lean_left (tree_of c.args.left))) (further_links_deep c.args.levels c.args.of c.args.reader.now c.if-levels-eq0.true) ∙ is) c.stop_linked.ensures
+    if_ok c.stop_linked.result _ _ (λ read is. ap (show_as (lean_left (tree_of c.args.left))) (further_links_deep c.args.levels c.args.of c.args.reader.now c.if-levels-eq0.true) ∙ is) c.stop_linked.ensures
 
 pub further_link-returns : goal.further_link-returns
 further_link-returns t c =
-    if_ok c.link.result _ _ (λ read is. ap (shown (lean_left (tree_of c.args.left))) (further_links_more c.args.levels (c.args.levels - 1) c.args.of c.args.reader.now (suc_before c.args.levels c.if-levels-eq0.false)) ∙ is) c.link.ensures
+    if_ok c.link.result _ _ (λ read is. ap (show_as (lean_left (tree_of c.args.left))) (further_links_more c.args.levels (c.args.levels - 1) c.args.of c.args.reader.now (suc_before c.args.levels c.if-levels-eq0.false)) ∙ is) c.link.ensures
 
 pub operand-returns-in-Expression : goal.operand-returns-in-Expression
 operand-returns-in-Expression t c =
-    if_ok c.chain.result _ _ (λ read is. ap (λ k. shown stands_for (operand c.args.levels k c.args.reader.now)) c.in-Expression.is ∙ ap (shown stands_for) (operand_expression c.args.levels c.args.reader.now) ∙ is) c.chain.ensures
+    if_ok c.chain.result _ _ (λ read is. ap (λ k. show_as stands_for (operand c.args.levels k c.args.reader.now)) c.in-Expression.is ∙ ap (show_as stands_for) (operand_expression c.args.levels c.args.reader.now) ∙ is) c.chain.ensures
 
 pub operand-returns-in-Conjunct : goal.operand-returns-in-Conjunct
 operand-returns-in-Conjunct t c =
-    if_ok c.minus_operand.result _ _ (λ read is. ap (λ k. shown stands_for (operand c.args.levels k c.args.reader.now)) c.in-Conjunct.is ∙ ap (shown stands_for) (operand_conjunct c.args.levels c.args.reader.now) ∙ is) c.minus_operand.ensures
+    if_ok c.minus_operand.result _ _ (λ read is. ap (λ k. show_as stands_for (operand c.args.levels k c.args.reader.now)) c.in-Conjunct.is ∙ ap (show_as stands_for) (operand_conjunct c.args.levels c.args.reader.now) ∙ is) c.minus_operand.ensures
 
 pub operand-returns-in-Sum : goal.operand-returns-in-Sum
 operand-returns-in-Sum t c =
-    if_ok c.chain-in-Sum.result _ _ (λ read is. ap (λ k. shown stands_for (operand c.args.levels k c.args.reader.now)) c.in-Sum.is ∙ ap (shown stands_for) (operand_sum c.args.levels c.args.reader.now) ∙ is) c.chain-in-Sum.ensures
+    if_ok c.chain-in-Sum.result _ _ (λ read is. ap (λ k. show_as stands_for (operand c.args.levels k c.args.reader.now)) c.in-Sum.is ∙ ap (show_as stands_for) (operand_sum c.args.levels c.args.reader.now) ∙ is) c.chain-in-Sum.ensures
 
 pub operand-returns-in-Term : goal.operand-returns-in-Term
 operand-returns-in-Term t c =
-    if_ok c.factor.result _ _ (λ read is. ap (λ k. shown stands_for (operand c.args.levels k c.args.reader.now)) c.in-Term.is ∙ ap (shown stands_for) (operand_term c.args.levels c.args.reader.now) ∙ is) c.factor.ensures
+    if_ok c.factor.result _ _ (λ read is. ap (λ k. show_as stands_for (operand c.args.levels k c.args.reader.now)) c.in-Term.is ∙ ap (show_as stands_for) (operand_term c.args.levels c.args.reader.now) ∙ is) c.factor.ensures
 
 pub minus_operand-returns-then-not-sees_word : goal.minus_operand-returns-then-not-sees_word
 minus_operand-returns-then-not-sees_word t c =
-    if_ok c.relation.result _ _ (λ read is. ap (shown stands_for) (negated_missed c.args.levels c.args.reader.now c.sees_word.result c.sees_word.ensures c.if-not-sees_word.true) ∙ is) c.relation.ensures
+    if_ok c.relation.result _ _ (λ read is. ap (show_as stands_for) (negated_missed c.args.levels c.args.reader.now c.sees_word.result c.sees_word.ensures c.if-not-sees_word.true) ∙ is) c.relation.ensures
 
 pub minus_operand-returns-then-levels-eq0 : goal.minus_operand-returns-then-levels-eq0
 minus_operand-returns-then-levels-eq0 t c =
-    if_ok c.stop.result _ _ (λ read is. ap (shown stands_for) (negated_deep c.args.levels c.args.reader.now c.sees_word.result c.if-levels-eq0.true c.sees_word.ensures c.if-not-sees_word.false) ∙ is) c.stop.ensures
+    if_ok c.stop.result _ _ (λ read is. ap (show_as stands_for) (negated_deep c.args.levels c.args.reader.now c.sees_word.result c.if-levels-eq0.true c.sees_word.ensures c.if-not-sees_word.false) ∙ is) c.stop.ensures
 
 pub minus_operand-returns : goal.minus_operand-returns
 minus_operand-returns t c =
@@ -66,11 +66,11 @@ minus_operand-returns t c =
 
 pub factor-returns-then-not-sees_sign : goal.factor-returns-then-not-sees_sign
 factor-returns-then-not-sees_sign t c =
-    if_ok c.primary.result _ _ (λ read is. ap (shown stands_for) (factor_missed c.args.levels c.args.reader.now c.sees_sign.result c.sees_sign.ensures c.if-not-sees_sign.true) ∙ is) c.primary.ensures
+    if_ok c.primary.result _ _ (λ read is. ap (show_as stands_for) (factor_missed c.args.levels c.args.reader.now c.sees_sign.result c.sees_sign.ensures c.if-not-sees_sign.true) ∙ is) c.primary.ensures
 
 pub factor-returns-then-levels-eq0 : goal.factor-returns-then-levels-eq0
 factor-returns-then-levels-eq0 t c =
-    if_ok c.stop.result _ _ (λ read is. ap (shown stands_for) (factor_deep c.args.levels c.args.reader.now c.sees_sign.result c.if-levels-eq0.true c.sees_sign.ensures c.if-not-sees_sign.false) ∙ is) c.stop.ensures
+    if_ok c.stop.result _ _ (λ read is. ap (show_as stands_for) (factor_deep c.args.levels c.args.reader.now c.sees_sign.result c.if-levels-eq0.true c.sees_sign.ensures c.if-not-sees_sign.false) ∙ is) c.stop.ensures
 
 pub factor-returns : goal.factor-returns
 factor-returns t c =
@@ -114,15 +114,15 @@ primary_kind-returns-in_ok-group_in_parentheses-in-Parenthesis t c =
 
 pub primary_kind-returns-in-Length : goal.primary_kind-returns-in-Length
 primary_kind-returns-in-Length t c =
-    if_ok c.length.result _ _ (λ read is. ap (shown stands_for) (primary_length c.args.levels c.args.reader.now c.primary_start.result c.primary_start.ensures c.in-Length.is) ∙ is) c.length.ensures
+    if_ok c.length.result _ _ (λ read is. ap (show_as stands_for) (primary_length c.args.levels c.args.reader.now c.primary_start.result c.primary_start.ensures c.in-Length.is) ∙ is) c.length.ensures
 
 pub primary_kind-returns-in-Name : goal.primary_kind-returns-in-Name
 primary_kind-returns-in-Name t c =
-    if_ok c.kind_by_name.result _ _ (λ read is. ap (shown stands_for) (primary_named c.args.levels c.args.reader.now c.primary_start.result c.primary_start.ensures c.in-Name.is) ∙ is) c.kind_by_name.ensures
+    if_ok c.kind_by_name.result _ _ (λ read is. ap (show_as stands_for) (primary_named c.args.levels c.args.reader.now c.primary_start.result c.primary_start.ensures c.in-Name.is) ∙ is) c.kind_by_name.ensures
 
 pub length-returns-then-levels-eq0 : goal.length-returns-then-levels-eq0
 length-returns-then-levels-eq0 t c =
-    ap (shown stands_for) (length_deep c.args.levels c.args.reader.now c.if-levels-eq0.true)
+    ap (show_as stands_for) (length_deep c.args.levels c.args.reader.now c.if-levels-eq0.true)
     ∙ stopped_here TooDeep c.args.reader.now c.stop.new.reader c.in_ok-stop.field-0.at (kind_tree c.in_ok-stop.field-0.kind) c.in_ok-stop.ensures
 
 pub length-returns : goal.length-returns
@@ -132,22 +132,22 @@ length-returns t c =
 
 pub length_argument-returns-then-sees_sign : goal.length_argument-returns-then-sees_sign
 length_argument-returns-then-sees_sign t c =
-    if_ok c.group_in_parentheses.result _ _ (λ read is. ap (shown stands_for) (required_seen c.args.levels c.args.reader.now c.sees_sign.result c.sees_sign.ensures c.if-sees_sign.true) ∙ is) c.group_in_parentheses.ensures
+    if_ok c.group_in_parentheses.result _ _ (λ read is. ap (show_as stands_for) (required_seen c.args.levels c.args.reader.now c.sees_sign.result c.sees_sign.ensures c.if-sees_sign.true) ∙ is) c.group_in_parentheses.ensures
 
 pub length_argument-returns-else-sees_sign : goal.length_argument-returns-else-sees_sign
 length_argument-returns-else-sees_sign t c =
-    if_ok c.stop.result _ _ (λ read is. ap (shown stands_for) (required_missed c.args.levels c.args.reader.now c.sees_sign.result c.sees_sign.ensures c.if-sees_sign.false) ∙ is) c.stop.ensures
+    if_ok c.stop.result _ _ (λ read is. ap (show_as stands_for) (required_missed c.args.levels c.args.reader.now c.sees_sign.result c.sees_sign.ensures c.if-sees_sign.false) ∙ is) c.stop.ensures
 
 pub group_in_parentheses-returns-then-levels-eq0 : goal.group_in_parentheses-returns-then-levels-eq0
 group_in_parentheses-returns-then-levels-eq0 t c =
-    if_ok c.stop.result _ _ (λ read is. ap (shown stands_for) (argument_deep c.args.levels c.args.reader.now c.if-levels-eq0.true) ∙ is) c.stop.ensures
+    if_ok c.stop.result _ _ (λ read is. ap (show_as stands_for) (argument_deep c.args.levels c.args.reader.now c.if-levels-eq0.true) ∙ is) c.stop.ensures
 
 pub group_in_parentheses-returns : goal.group_in_parentheses-returns
 group_in_parentheses-returns t c = argument_is c.args.levels (c.args.levels - 1) c.args.reader.now c.sign.new.self c.chain.new.reader c.sign-2.new.self (tree_of c.in_ok-inner.inner) (suc_before c.args.levels c.if-levels-eq0.false) c.sign.ensures c.in_ok-inner.ensures c.sign-2.ensures
 
 pub subscript-returns-then-levels-eq0 : goal.subscript-returns-then-levels-eq0
 subscript-returns-then-levels-eq0 t c =
-    if_ok c.stop.result _ _ (λ read is. ap (shown stands_for) (subscript_deep c.args.levels c.args.reader.now c.if-levels-eq0.true) ∙ is) c.stop.ensures
+    if_ok c.stop.result _ _ (λ read is. ap (show_as stands_for) (subscript_deep c.args.levels c.args.reader.now c.if-levels-eq0.true) ∙ is) c.stop.ensures
 
 pub subscript-returns : goal.subscript-returns
 subscript-returns t c = subscript_is c.args.levels (c.args.levels - 1) c.args.reader.now c.sign.new.self c.chain.new.reader c.sign-2.new.self (tree_of c.in_ok-inner.inner) (suc_before c.args.levels c.if-levels-eq0.false) c.sign.ensures c.in_ok-inner.ensures c.sign-2.ensures

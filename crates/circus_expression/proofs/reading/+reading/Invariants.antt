@@ -1,5 +1,5 @@
 use Rattle.std.proofs.Common.{◌≡◌, ◌+◌, ◌*◌, length, map}
-use Rattle.circus_expression.specs.Standing.{shown, stands_for}
+use Rattle.circus_expression.specs.Standing.{show_as, stands_for}
 use Rattle.circus_expression.specs.ExpressionReading.{items_within}
 use Rattle.circus_expression.proofs.Stands.{rank_of, items_go_on}
 use Rattle.circus_expression.proofs.reading.+reading.Given as goal
@@ -75,7 +75,7 @@ decreases-items l = 26 * l.levels + 25
 
 -- the items so far and those that follow are the items
 abbrev pub invariant-items-loop-reader : goal.invariant-items-loop-reader
-invariant-items-loop-reader l = shown (map stands_for) (items_within l.levels l.fn.reader) ≡ items_go_on l.levels l.items l.reader
+invariant-items-loop-reader l = show_as (map stands_for) (items_within l.levels l.fn.reader) ≡ items_go_on l.levels l.items l.reader
 
 abbrev pub decreases-items-loop-reader : goal.decreases-items-loop-reader
 decreases-items-loop-reader l = length l.reader.rest

@@ -4,7 +4,7 @@ use Rattle.circus_syntax.specs.Reader.{place}
 use Rattle.circus_syntax.proofs.ByWord.{if_ok, suc_before}
 use Rattle.circus_expression.specs.ExpressionOf as expression
 use Rattle.circus_expression.specs.ExpressionOf.{place_of}
-use Rattle.circus_expression.specs.Standing.{shown}
+use Rattle.circus_expression.specs.Standing.{show_as}
 use Rattle.circus_statement.specs.declared.starts.StatementStart.TheVariants as begins
 use Rattle.circus_statement.specs.StatementOf.{tree_of, handler_of, into_of}
 use Rattle.circus_statement.specs.StatementReading.{is_word, begins_statement, statement, handler}
@@ -15,7 +15,7 @@ use Rattle.circus_statement.proofs.reading.+reading.Goals as goal
 
 pub statements_text-returns-then-sees_word : goal.statements_text-returns-then-sees_word
 statements_text-returns-then-sees_word t c =
-    if_ok c.block_behind.result _ _ (λ read is. ap (shown (map stands_for)) (block_seen c.args.levels c.args.lead.now c.args.reader.now c.sees_word.result c.sees_word.ensures c.if-sees_word.true) ∙ is) c.block_behind.ensures
+    if_ok c.block_behind.result _ _ (λ read is. ap (show_as (map stands_for)) (block_seen c.args.levels c.args.lead.now c.args.reader.now c.sees_word.result c.sees_word.ensures c.if-sees_word.true) ∙ is) c.block_behind.ensures
 
 pub statements_text-returns : goal.statements_text-returns
 statements_text-returns t c = block_missed c.args.levels c.args.lead.now c.args.reader.now c.stop_here.new.self c.new.result c.sees_word.result c.sees_word.ensures c.if-sees_word.false c.stop_here.ensures c.new.ensures
@@ -40,31 +40,31 @@ block_behind-returns t c = go_end stands_for begins_statement (statement (c.args
 
 pub statement_kind-returns-in-Assign : goal.statement_kind-returns-in-Assign
 statement_kind-returns-in-Assign t c =
-    if_ok c.assignment.result _ _ (λ kind is. ap (shown stands_for) (statement_case c.args.levels c.args.reader.now c.statement_start.result begins.Assign c.statement_start.ensures c.in-Assign.is) ∙ is) c.assignment.ensures
+    if_ok c.assignment.result _ _ (λ kind is. ap (show_as stands_for) (statement_case c.args.levels c.args.reader.now c.statement_start.result begins.Assign c.statement_start.ensures c.in-Assign.is) ∙ is) c.assignment.ensures
 
 pub statement_kind-returns-in-If : goal.statement_kind-returns-in-If
 statement_kind-returns-in-If t c =
-    if_ok c.choice.result _ _ (λ kind is. ap (shown stands_for) (statement_case c.args.levels c.args.reader.now c.statement_start.result begins.If c.statement_start.ensures c.in-If.is) ∙ is) c.choice.ensures
+    if_ok c.choice.result _ _ (λ kind is. ap (show_as stands_for) (statement_case c.args.levels c.args.reader.now c.statement_start.result begins.If c.statement_start.ensures c.in-If.is) ∙ is) c.choice.ensures
 
 pub statement_kind-returns-in-While : goal.statement_kind-returns-in-While
 statement_kind-returns-in-While t c =
-    if_ok c.repetition.result _ _ (λ kind is. ap (shown stands_for) (statement_case c.args.levels c.args.reader.now c.statement_start.result begins.While c.statement_start.ensures c.in-While.is) ∙ is) c.repetition.ensures
+    if_ok c.repetition.result _ _ (λ kind is. ap (show_as stands_for) (statement_case c.args.levels c.args.reader.now c.statement_start.result begins.While c.statement_start.ensures c.in-While.is) ∙ is) c.repetition.ensures
 
 pub statement_kind-returns-in-Append : goal.statement_kind-returns-in-Append
 statement_kind-returns-in-Append t c =
-    if_ok c.addition.result _ _ (λ kind is. ap (shown stands_for) (statement_case c.args.levels c.args.reader.now c.statement_start.result begins.Append c.statement_start.ensures c.in-Append.is) ∙ is) c.addition.ensures
+    if_ok c.addition.result _ _ (λ kind is. ap (show_as stands_for) (statement_case c.args.levels c.args.reader.now c.statement_start.result begins.Append c.statement_start.ensures c.in-Append.is) ∙ is) c.addition.ensures
 
 pub statement_kind-returns-in-Call : goal.statement_kind-returns-in-Call
 statement_kind-returns-in-Call t c =
-    if_ok c.call.result _ _ (λ kind is. ap (shown stands_for) (statement_case c.args.levels c.args.reader.now c.statement_start.result begins.Call c.statement_start.ensures c.in-Call.is) ∙ is) c.call.ensures
+    if_ok c.call.result _ _ (λ kind is. ap (show_as stands_for) (statement_case c.args.levels c.args.reader.now c.statement_start.result begins.Call c.statement_start.ensures c.in-Call.is) ∙ is) c.call.ensures
 
 pub statement_kind-returns-in-Return : goal.statement_kind-returns-in-Return
 statement_kind-returns-in-Return t c =
-    if_ok c.end.result _ _ (λ kind is. ap (shown stands_for) (statement_case c.args.levels c.args.reader.now c.statement_start.result begins.Return c.statement_start.ensures c.in-Return.is) ∙ is) c.end.ensures
+    if_ok c.end.result _ _ (λ kind is. ap (show_as stands_for) (statement_case c.args.levels c.args.reader.now c.statement_start.result begins.Return c.statement_start.ensures c.in-Return.is) ∙ is) c.end.ensures
 
 pub statement_kind-returns-in-Raise : goal.statement_kind-returns-in-Raise
 statement_kind-returns-in-Raise t c =
-    if_ok c.failure.result _ _ (λ kind is. ap (shown stands_for) (statement_case c.args.levels c.args.reader.now c.statement_start.result begins.Raise c.statement_start.ensures c.in-Raise.is) ∙ is) c.failure.ensures
+    if_ok c.failure.result _ _ (λ kind is. ap (show_as stands_for) (statement_case c.args.levels c.args.reader.now c.statement_start.result begins.Raise c.statement_start.ensures c.in-Raise.is) ∙ is) c.failure.ensures
 
 pub choice-returns : goal.choice-returns
 choice-returns t c =

@@ -1,6 +1,6 @@
 use Rattle.std.proofs.Common.{◌≡◌, ◌+◌, ◌-◌, ◌*◌, length, map}
 use Rattle.std.specs.Prelude.{codes}
-use Rattle.circus_expression.specs.Standing.{shown}
+use Rattle.circus_expression.specs.Standing.{show_as}
 use Rattle.circus_statement.specs.StatementReading.{is_word, begins_statement, opened_block, statement, handler, handlers}
 use Rattle.circus_statement.specs.StatementStanding.{stands_for, handler_stands_for}
 use Rattle.circus_statement.proofs.Steps.{go_on}
@@ -38,14 +38,14 @@ decreases-statement l = 8 * l.levels + 6
 
 -- the statements so far and those that follow are the statements
 abbrev pub invariant-block_behind-loop-statements : goal.invariant-block_behind-loop-statements
-invariant-block_behind-loop-statements l = shown (map stands_for) (opened_block l.levels l.lead l.fn.reader) ≡ go_on stands_for begins_statement (statement (l.levels - 1)) l.statements l.reader
+invariant-block_behind-loop-statements l = show_as (map stands_for) (opened_block l.levels l.lead l.fn.reader) ≡ go_on stands_for begins_statement (statement (l.levels - 1)) l.statements l.reader
 
 abbrev pub decreases-block_behind-loop-statements : goal.decreases-block_behind-loop-statements
 decreases-block_behind-loop-statements l = length l.reader.rest
 
 -- the handlers so far and those that follow are the handlers
 abbrev pub invariant-handlers-loop-handlers : goal.invariant-handlers-loop-handlers
-invariant-handlers-loop-handlers l = shown (map handler_stands_for) (handlers l.levels l.fn.reader) ≡ go_on handler_stands_for (is_word (codes "ON")) (handler l.levels) l.handlers l.reader
+invariant-handlers-loop-handlers l = show_as (map handler_stands_for) (handlers l.levels l.fn.reader) ≡ go_on handler_stands_for (is_word (codes "ON")) (handler l.levels) l.handlers l.reader
 
 abbrev pub decreases-handlers-loop-handlers : goal.decreases-handlers-loop-handlers
 decreases-handlers-loop-handlers l = length l.reader.rest

@@ -7,7 +7,7 @@ use Rattle.circus_node.specs.declared.station.Station.{Station}
 use Rattle.circus_node.specs.Making.{Made, hears}
 use Rattle.circus_node.specs.Sending.{gives_of}
 use Rattle.circus_node.specs.Seen.Kept.{IsActing}
-use Rattle.circus_node.specs.Step.{IsEnded, received}
+use Rattle.circus_node.specs.Step.{IsEnded, take_datagram}
 use Rattle.circus_node.proofs.OtherLemmas.{still_stands}
 use Rattle.circus_node.proofs.SendLemmas.{lost_memory, concluded_as, node_is}
 use Rattle.circus_node.proofs.node_core.NodeCore.receive.Goals as goal
@@ -18,7 +18,7 @@ receive-requires g c = subst (λ (n : NodeState g.row.M.Denot). IsOther n.wire c
 pub returns-in_err-gives-clause-ended : goal.returns-in_err-gives-clause-ended
 returns-in_err-gives-clause-ended g c =
     let p = err_from_is_err_and c.from_residual.result c.from_residual.ensures.1 in
-    lost_memory c.from_residual.result (received g.M.Module.declared g.M.Module.turn c.args.at c.args.from (reading c.args.bytes.now) c.args.self) p.0 p.1 p.2
+    lost_memory c.from_residual.result (take_datagram g.M.Module.declared g.M.Module.turn c.args.at c.args.from (reading c.args.bytes.now) c.args.self) p.0 p.1 p.2
 
 pub hear-requires : goal.hear-requires
 hear-requires g c =
@@ -28,7 +28,7 @@ hear-requires g c =
 pub returns-in_err-acting-clause-ended : goal.returns-in_err-acting-clause-ended
 returns-in_err-acting-clause-ended g c =
     let p = err_from_is_err_and c.from_residual-in_err-acting.result c.from_residual-in_err-acting.ensures.1 in
-    lost_memory c.from_residual-in_err-acting.result (received g.M.Module.declared g.M.Module.turn c.args.at c.args.from (reading c.args.bytes.now) c.args.self) p.0 p.1 p.2
+    lost_memory c.from_residual-in_err-acting.result (take_datagram g.M.Module.declared g.M.Module.turn c.args.at c.args.from (reading c.args.bytes.now) c.args.self) p.0 p.1 p.2
 
 pub conclude-requires-clause-station : goal.conclude-requires-clause-station
 conclude-requires-clause-station g c =
@@ -51,7 +51,7 @@ returns-clause-ended g c =
     let same : hears g.M.Module.declared g.M.Module.turn t.deployment c.args.at c.args.from c.in_ok-gives.heard a ≡ made =
     ap (λ (x : Station). hears g.M.Module.declared g.M.Module.turn x.deployment c.args.at c.args.from c.in_ok-gives.heard a) got.station
     ∙ ap (λ h. hears g.M.Module.declared g.M.Module.turn s.deployment c.args.at c.args.from h a) got.heard in
-    subst (λ n. IsEnded c.conclude.result (received g.M.Module.declared g.M.Module.turn c.args.at c.args.from segment n)) c.self.view_is
+    subst (λ n. IsEnded c.conclude.result (take_datagram g.M.Module.declared g.M.Module.turn c.args.at c.args.from segment n)) c.self.view_is
     (concluded_as c.conclude.result (record { deployment = s.deployment; wire = after_datagram s.wire c.args.from segment; acting = made.acting; dropped = s.dropped }) t c.in_ok-acting.acting
     c.in_ok-gives.gives (gives_of (sent_by_datagram s.wire c.args.from segment)) c.in_ok-acting.came made.came
     (node_is t c.in_ok-acting.acting made.acting s.deployment (after_datagram s.wire c.args.from segment) s.dropped

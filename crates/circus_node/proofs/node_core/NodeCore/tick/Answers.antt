@@ -1,6 +1,6 @@
 use Rattle.std.proofs.Common.{◌≡◌, sym, subst, Err, Ok}
 use Rattle.std.proofs.lemmas.Result.{err_from_is_err_and}
-use Rattle.circus_node.specs.Step.{IsEnded, ticked}
+use Rattle.circus_node.specs.Step.{IsEnded, tick_node}
 use Rattle.circus_node.specs.Seen.StationOf.{node_of}
 use Rattle.circus_node.specs.Seen.Kept.{IsActing}
 use Rattle.circus_node.proofs.OtherLemmas.{still_stands}
@@ -11,9 +11,9 @@ use Rattle.circus_node.proofs.node_core.NodeCore.tick.Goals as goal
 pub returns-in_err-station-clause-ended : goal.returns-in_err-station-clause-ended
 returns-in_err-station-clause-ended g c =
     let p = err_from_is_err_and c.from_residual.result c.from_residual.ensures.1 in
-    subst (λ n. IsEnded c.from_residual.result (ticked n)) c.self.view_is
-    (subst (λ r. IsEnded r (ticked (node_of c.self.inside.station c.self.inside.acting))) (sym p.1)
-    (subst (λ f. IsEnded (Err f) (ticked (node_of c.self.inside.station c.self.inside.acting))) (sym p.2)
+    subst (λ n. IsEnded c.from_residual.result (tick_node n)) c.self.view_is
+    (subst (λ r. IsEnded r (tick_node (node_of c.self.inside.station c.self.inside.acting))) (sym p.1)
+    (subst (λ f. IsEnded (Err f) (tick_node (node_of c.self.inside.station c.self.inside.acting))) (sym p.2)
     (ticked_fault c.self.inside.station c.self.inside.acting c.in_err-station.field-0.0 c.in_err-station.ensures)))
 
 pub invariant_of-result : goal.invariant_of-result
@@ -25,7 +25,7 @@ invariant_of-result g c =
 
 pub returns-clause-ended : goal.returns-clause-ended
 returns-clause-ended g c =
-    subst (λ n. ticked n ≡ Ok (node_of c.in_ok-station.station c.self.inside.acting, c.in_ok-station.outputs)) c.self.view_is
+    subst (λ n. tick_node n ≡ Ok (node_of c.in_ok-station.station c.self.inside.acting, c.in_ok-station.outputs)) c.self.view_is
     (ticked_is c.self.inside.station c.self.inside.acting (c.in_ok-station.station, c.in_ok-station.outputs) c.in_ok-station.ensures)
 
 pub returns-clause-rest : goal.returns-clause-rest

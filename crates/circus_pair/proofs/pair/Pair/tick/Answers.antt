@@ -1,6 +1,6 @@
 use Rattle.std.proofs.Common.{ap, ◌∙◌}
 use Rattle.std.proofs.lemmas.Result.{on_ok_weaker, IfOk-weaker}
-use Rattle.circus_exchange.specs.Exchange.{ticked, is_suspect, datagrams_of_tick}
+use Rattle.circus_exchange.specs.Exchange.{count_tick, is_suspect, datagrams_of_tick}
 use Rattle.circus_pair.proofs.Following.{stands_ticked, ticked_owes, suspects_as_owed}
 use Rattle.circus_pair.proofs.Lasting.{lasts_ticked, lasts_either}
 use Rattle.circus_pair.proofs.Freshness.{fresh_ticked, fresh_either}
@@ -17,7 +17,7 @@ returns-clause-down c = (lasts_either c.tick.result c.self.inside.exchange _ _ _
 
 pub returns-clause-stands : goal.returns-clause-stands
 returns-clause-stands c first format acts stands =
-    on_ok_weaker c.tick.result (λ e. stands_ticked c.args.self.now first format acts stands _ c.requires.up (e ∙ ap ticked c.self.view_is)) c.tick.ensures.state
+    on_ok_weaker c.tick.result (λ e. stands_ticked c.args.self.now first format acts stands _ c.requires.up (e ∙ ap count_tick c.self.view_is)) c.tick.ensures.state
 
 pub returns-clause-owed : goal.returns-clause-owed
 returns-clause-owed c first format acts stands =
