@@ -1,115 +1,13 @@
 // What the module that a node hosts declares.
-ghost use Rattle.std.specs.Prelude.{◌≡◌, map, IfOk};
-ghost use Rattle.circus_model.specs.Agree as agree;
-ghost use Rattle.circus_check.specs.Resolved.{module_as};
-ghost use Rattle.circus_modules.specs.Signatures as means;
+ghost use Rattle.std.specs.Prelude.{◌≡◌, IfOk};
 ghost use Rattle.circus_audit.specs.Seen.Reading as reading;
 
 use crate::setting::Hosted;
-use circus_check::ResolvedModule;
 use circus_config::Plan;
-use circus_idl::Interface;
-use circus_model::{ErrorShapes, Import, Imports, ProcedureShape, ProcedureShapes, Signature};
-use circus_modules::{procedures_of, shapes_of};
+use circus_modules::{interface_numbers, signature_of};
 use circus_node::troupe_at;
-use circus_value::{NoMemory, Shapes};
+use circus_value::NoMemory;
 use std::alloc::Global;
-
-// The one procedure of a root.
-fn main_alone(alloc: Global) -> Result<ProcedureShapes, NoMemory>
-    ensures { IfOk result (λ procedures. procedures ≡ agree.main_alone) }
-{
-    let mut procedures = ProcedureShapes::new(alloc);
-    procedures.push(ProcedureShape {
-        number: 0,
-        arguments: Shapes::new(alloc),
-        results: Shapes::new(alloc),
-        errors: ErrorShapes::new(alloc),
-    })?;
-    Ok(procedures)
-}
-
-// The procedures of a module, by the number of its interface.
-fn procedures_offered(
-    alloc: Global,
-    interfaces: &[Interface],
-    number: Option<u16>,
-) -> Result<ProcedureShapes, NoMemory>
-    ensures { IfOk result (λ procedures.
-        procedures ≡ means.procedures_offered interfaces.now number) }
-{
-    match number {
-        None => main_alone(alloc),
-        Some(number) => match interfaces.get(usize::from(number)) {
-            Some(interface) => procedures_of(alloc, interface),
-            None => Ok(ProcedureShapes::new(alloc)),
-        },
-    }
-}
-
-// The number of each module's interface.
-fn interface_numbers(
-    alloc: Global,
-    modules: &[ResolvedModule],
-) -> Result<Vec<Option<u16>>, NoMemory>
-    ensures { IfOk result (λ numbers. numbers.items ≡ map (λ m. m.interface) modules.now) }
-{
-    modules.iter().map(|module| module.interface).collect(alloc)
-}
-
-// A module that is imported, where modules implement interfaces of these numbers.
-fn import(
-    alloc: Global,
-    interfaces: &[Interface],
-    implemented: &[Option<u16>],
-    module: u16,
-) -> Result<Import, NoMemory>
-    ensures { IfOk result (λ import.
-        import ≡ means.import_of interfaces.now implemented.now «module») }
-{
-    let number = implemented.get(usize::from(module)).copied();
-    Ok(Import {
-        module,
-        procedures: procedures_offered(alloc, interfaces, number.unwrap_or(None))?,
-    })
-}
-
-fn imports(
-    alloc: Global,
-    interfaces: &[Interface],
-    implemented: &[Option<u16>],
-    numbers: &[u16],
-) -> Result<Imports, NoMemory>
-    ensures { IfOk result (λ imports.
-        imports ≡ map (means.import_of interfaces.now implemented.now) numbers.now) }
-{
-    let mut imports = Imports::new(alloc);
-    for number in numbers {
-        imports.push(import(alloc, interfaces, implemented, *number)?)?;
-    }
-    Ok(imports)
-}
-
-// What a module declares whose states and values may have so many bytes.
-fn signature(
-    alloc: Global,
-    limit: u32,
-    interfaces: &[Interface],
-    implemented: &[Option<u16>],
-    module: &ResolvedModule,
-) -> Result<Signature, NoMemory>
-    ensures { IfOk result (λ signature.
-        signature ≡ means.signature_of limit interfaces.now implemented.now
-        (module_as «module».now)) }
-{
-    Ok(Signature {
-        root: module.root,
-        imports: imports(alloc, interfaces, implemented, module.imports.as_slice())?,
-        variables: shapes_of(alloc, module.variables.as_slice())?,
-        procedures: procedures_offered(alloc, interfaces, module.interface)?,
-        limit,
-    })
-}
 
 /// The module of the member that a node hosts, and what it declares. `None` where the node hosts none.
 pub(crate) fn hosted_by(alloc: Global, plan: &Plan, own: u16) -> Result<Option<Hosted>, NoMemory>
@@ -123,7 +21,7 @@ pub(crate) fn hosted_by(alloc: Global, plan: &Plan, own: u16) -> Result<Option<H
         return Ok(None);
     };
     let implemented = interface_numbers(alloc, modules.as_slice())?;
-    let signature = signature(
+    let signature = signature_of(
         alloc,
         plan.limit(),
         plan.checked.interfaces.as_slice(),

@@ -65,13 +65,13 @@ impl<'p, 's> TypeScope<'p, 's> {
 }
 
 impl<'p, 's> TypeNames for TypeScope<'p, 's> {
-    ghost unknown = { unknown_in };
+    ghost unknown_place = { unknown_in };
 
     ghost sizes = { size_in };
 
     ghost forms = { form_in };
 
-    fn unknown(&self, name: &TypeName) -> Option<u32> {
+    fn unknown_place(&self, name: &TypeName) -> Option<u32> {
         if let Some(module) = &name.module {
             if self.imported.get(module.name.as_slice()).is_none() {
                 return Some(module.at);

@@ -1,5 +1,5 @@
 -- What is written of a program: its history when nothing is replicated, its stubs, or why it is refused.
-use Rattle.std.specs.Prelude.{ℕ, ◌≡◌, ◌⊎◌, List, [], ◌++◌, map, codes}
+use Rattle.std.specs.Prelude.{ℕ, ◌≡◌, ◌⊎◌, List, [], ◌++◌, codes}
 use Rattle.std.specs.List.{flat_map}
 use Rattle.circus_model.specs.declared.history.Run.{Run}
 use Rattle.circus_model.specs.Execution.{history_of}
@@ -7,10 +7,8 @@ use Rattle.circus_record.specs.Line.{line}
 use Rattle.circus_record.specs.Naming.{names_of}
 use Rattle.circus_commands.specs.HistoryLines.{history_text}
 use Rattle.circus_stub.specs.StubsText.{stubs_text}
-use Rattle.circus_check.specs.Resolved.{module_as}
-use Rattle.circus_modules.specs.Behaviours.{program_of}
 use Rattle.circus_config.specs.declared.plan.Plan.{Plan}
-use Rattle.circus_limits.specs.Limits.{limit_of}
+use Rattle.circus_plan_modules.specs.Loaded.{behaviours_in}
 use Rattle.circus_config.specs.Program.{IsProgramOf}
 use Rattle.circus_commands.specs.declared.status.Status.TheVariants.{Done}
 use Rattle.circus_commands.specs.Ending.{Ending}
@@ -18,7 +16,7 @@ use Rattle.circus_commands.specs.Refusal.{IsEndOfRefused}
 
 -- what each module performs when nothing is replicated
 abbrev pub history_in : Plan → List (List Run)
-history_in plan = history_of (program_of (limit_of plan.deployment.format) plan.checked.interfaces (map module_as plan.checked.modules))
+history_in plan = history_of (behaviours_in plan)
 
 -- the lines of that history
 abbrev pub history_lines : Plan → List ℕ

@@ -1,5 +1,5 @@
 -- All that the nodes of a world send is bytes.
-use Rattle.std.proofs.Common.{◌≡◌, ℕ, ◌+◌, ◌<◌, ◌⊎◌, inl, inr, Bool, true, false, ◌||◌, List, [], ◌∷◌, ◌++◌, length, get_or, All, Option, None, Some, refl, sym, ap, subst, ◌∙◌, arith}
+use Rattle.std.proofs.Common.{◌≡◌, ℕ, ◌+◌, ◌<◌, ◌⊎◌, inl, inr, Bool, true, false, List, [], ◌∷◌, ◌++◌, length, get_or, All, Option, None, Some, refl, sym, ap, subst, ◌∙◌, arith}
 use Rattle.std.specs.Prelude.{◌==◌, slice_get, slice_index, Contains, IsSomeAnd, option_and_then, option_map}
 use Rattle.std.specs.List.{find}
 use Rattle.std.specs.Option.{option_map_or}
@@ -118,7 +118,7 @@ error_octets p error values true reported is =
 error_octets p error [] false reported is = none_octets
 error_octets p error (v ∷ values) false reported is = absurd (let clash : false ≡ true = is in cc)
 
-outcome_octets : (p : ProcedureShape) (outcome : Outcome) → outcome_fits p outcome ≡ true → AreOctets (outcome_spelling outcome)
+pub outcome_octets : (p : ProcedureShape) (outcome : Outcome) → outcome_fits p outcome ≡ true → AreOctets (outcome_spelling outcome)
 outcome_octets p (Returned results) fit = both_octets (word 0) (spelling_of_all results) (word_octets 0) (values_octets p.results results fit)
 outcome_octets p (Raised error values) fit =
     both_octets (word 1) (word error ++ spelling_of_all values) (word_octets 1)

@@ -43,21 +43,21 @@ use Rattle.circus_headline_theory.specs.ServedRun.{IsOfOctets, own_happenings, s
 
 -- ---- what happened
 
-own_push : (xs : List Happening) (event : Event) (gives : List Give) (differences : List Difference)
+pub own_push : (xs : List Happening) (event : Event) (gives : List Give) (differences : List Difference)
     → own_happenings (xs ++ Stepped event gives differences ∷ []) ≡ own_happenings xs ++ Stepped event gives differences ∷ []
 own_push [] event gives differences = refl
 own_push (Booted g ∷ others) event gives differences = ap (λ l. Booted g ∷ l) (own_push others event gives differences)
 own_push (Stepped e g ds ∷ others) event gives differences = ap (λ l. Stepped e g ds ∷ l) (own_push others event gives differences)
 own_push (Foreign p b ∷ others) event gives differences = own_push others event gives differences
 
-own_foreign : (xs : List Happening) (port : ℕ) (bytes : List ℕ) → own_happenings (xs ++ Foreign port bytes ∷ []) ≡ own_happenings xs
+pub own_foreign : (xs : List Happening) (port : ℕ) (bytes : List ℕ) → own_happenings (xs ++ Foreign port bytes ∷ []) ≡ own_happenings xs
 own_foreign [] port bytes = refl
 own_foreign (Booted g ∷ others) port bytes = ap (λ l. Booted g ∷ l) (own_foreign others port bytes)
 own_foreign (Stepped e g ds ∷ others) port bytes = ap (λ l. Stepped e g ds ∷ l) (own_foreign others port bytes)
 own_foreign (Foreign p b ∷ others) port bytes = own_foreign others port bytes
 
 -- another one for a node of a program is another one of the program
-other_of : {M : Type 0} (d : Deployment) (node other : ℕ) (n : NodeState M) → 0 < length d.nodes → IsNodeOf d node n → IsOther n.wire other → (other ≡ node → ⊥) × (other < length d.nodes)
+pub other_of : {M : Type 0} (d : Deployment) (node other : ℕ) (n : NodeState M) → 0 < length d.nodes → IsNodeOf d node n → IsOther n.wire other → (other ≡ node → ⊥) × (other < length d.nodes)
 other_of d node other n some of is = (λ same. is.0 (same ∙ sym of.own), omega (arith, some, is.1, of.pairs))
 
 module _ {M : Type 0} (declared : M → Signature) (turn : M → List ValueTree → ℕ → List ValueTree → List Outcome → NextTurn) (first : M → List ValueTree)

@@ -88,13 +88,13 @@ impl<'a> Types<'a> {
 }
 
 impl<'a> TypeNames for Types<'a> {
-    ghost unknown = { λ types. unknown_in (is_known types) };
+    ghost unknown_place = { λ types. unknown_in (is_known types) };
 
     ghost sizes = { λ types. by_name (type_measure types) };
 
     ghost forms = { λ types. by_name (type_form types) };
 
-    fn unknown(&self, name: &TypeName) -> Option<u32> {
+    fn unknown_place(&self, name: &TypeName) -> Option<u32> {
         match &name.module {
             None if self.has(name.name.name.as_slice()) => None,
             None => Some(name.name.at),

@@ -10,4 +10,5 @@ mod text_modules;
 mod zero;
 
 pub use procedures::{procedures_of, shapes_of};
+pub use signature::{interface_numbers, signature_of};
 pub use text_modules::modules_of;

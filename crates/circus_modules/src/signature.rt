@@ -75,8 +75,19 @@ fn imports(
     Ok(imports)
 }
 
-/// What a module declares whose states and values may have so many bytes.
-pub(crate) fn signature(
+/// The number of each module's interface, `None` where it has none, or `NoMemory`.
+pub fn interface_numbers(
+    alloc: Global,
+    modules: &[ResolvedModule],
+) -> Result<Vec<Option<u16>>, NoMemory>
+    ensures { IfOk result (λ numbers. numbers.items ≡ map (λ m. m.interface) modules.now) }
+{
+    modules.iter().map(|module| module.interface).collect(alloc)
+}
+
+/// What a module declares whose states and values may have at most `limit` bytes (docs/LANGUAGE.md, "Executions"), by the
+/// interfaces and the number of the interface that each module implements; or `NoMemory`.
+pub fn signature_of(
     alloc: Global,
     limit: u32,
     interfaces: &[Interface],

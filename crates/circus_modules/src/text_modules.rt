@@ -10,23 +10,13 @@ ghost use Rattle.circus_check.specs.WellFormed.{AreWellFormed};
 ghost use Rattle.circus_modules.specs.Behaviours.{behaviour_of, program_of};
 ghost use Rattle.circus_modules.specs.Seen.Made.{AreMade, IsSmall, CanBeMade};
 
-use crate::signature::signature;
+use crate::signature::{interface_numbers, signature_of};
 use crate::zero::zero_fields;
 use circus_check::{Checked, CheckedBodies, Interfaces, ResolvedModule, ResolvedModules};
 use circus_idl::Interface;
 use circus_machine::{Body, TextModule};
 use circus_value::{ListOf, NoMemory};
 use std::alloc::Global;
-
-// The number of each module's interface.
-fn interface_numbers(
-    alloc: Global,
-    modules: &[ResolvedModule],
-) -> Result<Vec<Option<u16>>, NoMemory>
-    ensures { IfOk result (λ numbers. numbers.items ≡ map (λ m. m.interface) modules.now) }
-{
-    modules.iter().map(|module| module.interface).collect(alloc)
-}
 
 // The bodies, compiled.
 fn compile_bodies(alloc: Global, bodies: CheckedBodies) -> Result<ListOf<Body>, NoMemory>
@@ -55,7 +45,7 @@ fn text_module(
       first = ⟦<TextModule as circus_model::Module>⟧.first made;
     } ≡ behaviour_of limit interfaces.now implemented.now (module_as «module»)) }
 {
-    let signature = signature(alloc, limit, interfaces, implemented, &module)?;
+    let signature = signature_of(alloc, limit, interfaces, implemented, &module)?;
     let first = zero_fields(alloc, module.variables.as_slice())?;
     let bodies = compile_bodies(alloc, module.bodies)?;
     TextModule::new(alloc, signature, first, bodies)

@@ -16,7 +16,7 @@ use Rattle.circus_exchange.specs.Outbox.{has_total, agrees, hand_over, raise_pro
 use Rattle.circus_exchange.specs.Exchange.{start, send_call, send_return, is_whole, awaits_return, takes, was_sent, call_reached, return_reached, total_or_none, total_of, end_call, return_added, after_taken, after, count_tick}
 use Rattle.circus_pair.specs.Taken.{total_in}
 use Rattle.circus_pair.specs.Acts.{Act, Call, Return, Came, Tick, Stop, Acts, none_yet, more, happens, end_after, taken_by, AreActs}
-use Rattle.circus_pair.specs.Handed.{calls_made, call_at, return_at, says, reached_in, agrees_with, fits_with, sent_below, is_taken, ReturnsOnce}
+use Rattle.circus_pair.specs.Handed.{calls_made, call_at, return_at, says, reached_in, agrees_with, fits_with, sent_below, is_taken}
 use Rattle.circus_exchange.specs.Inbox.{Arriving}
 use Rattle.circus_pair.specs.Taken.{count_in, is_reached, has_arrived}
 use Rattle.circus_pair.proofs.Arrivals.{Keeps, told}
@@ -24,6 +24,12 @@ use Rattle.circus_pair.proofs.Lasting.{lasts_called, lasts_returned, lasts_after
 use Rattle.circus_pair.proofs.Standing.{Stands, stands_after}
 use Rattle.circus_pair.proofs.Taking.{return_is, takes_call_acknowledged, takes_return_acknowledged, takes_return_segment, Same, by_segment, by_taken, call_acknowledged_leaves, return_acknowledged_leaves, call_segment_leaves, return_segment_leaves, taken_lasts}
 use Rattle.circus_exchange.proofs.Ties.{equal, nat_ties}
+
+-- no call is returned twice
+abbrev pub ReturnsOnce : Acts → Type 0
+ReturnsOnce none_yet = Unit {0}
+ReturnsOnce (more acts (Return call message)) = ReturnsOnce acts × (return_at acts call ≡ None)
+ReturnsOnce (more acts act) = ReturnsOnce acts
 
 -- ---- what an act leaves in the tables of what was handed over
 

@@ -17,10 +17,10 @@ use Rattle.circus_exchange.specs.Outbox.{has_total, agrees, hand_over, whole_by,
 use Rattle.circus_exchange.specs.Exchange.{start, send_call, send_return, takes, call_reached, return_reached, total_of, end_call, return_added, after_taken, after, count_tick}
 use Rattle.circus_pair.specs.Taken.{is_of, total_in, has_arrived, is_reached, count_in}
 use Rattle.circus_pair.specs.Acts.{Call, Return, Came, Tick, Stop, Acts, none_yet, more, happens, end_after, taken_by, AreActs}
-use Rattle.circus_pair.specs.Handed.{calls_made, call_at, return_at, says, reached_in, agrees_with, ReturnsOnce}
+use Rattle.circus_pair.specs.Handed.{calls_made, call_at, return_at, says, reached_in, agrees_with}
 use Rattle.circus_pair.specs.Lawful.{AreLawful}
 use Rattle.circus_pair.proofs.Arrivals.{Keeps, completes_is, arrived_stays, arrived_other, total_other}
-use Rattle.circus_pair.proofs.Handing.{Hands, hands_after, told_out, not_some, says_elsewhere, says_other_kind, says_no_return, says_no_call, says_here, says_whole, call_kind, return_kind, total_told, total_agrees, taken_return}
+use Rattle.circus_pair.proofs.Handing.{ReturnsOnce, Hands, hands_after, told_out, not_some, says_elsewhere, says_other_kind, says_no_return, says_no_call, says_here, says_whole, call_kind, return_kind, total_told, total_agrees, taken_return}
 use Rattle.circus_pair.proofs.Standing.{Stands, stands_after, may_follow, acknowledges, other_kind}
 use Rattle.circus_pair.proofs.Taking.{return_is, takes_call_acknowledged, takes_return_acknowledged, Same, by_segment, by_taken, call_acknowledged_leaves, return_acknowledged_leaves, call_segment_leaves, return_segment_leaves}
 use Rattle.circus_exchange.proofs.Ties.{equal, nat_ties}

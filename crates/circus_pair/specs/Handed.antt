@@ -1,5 +1,5 @@
 -- What was handed over at one end, what is acknowledged of it, and which segments are taken.
-use Rattle.std.specs.Prelude.{◌≡◌, ℕ, ◌+◌, Bool, true, false, ◌&&◌, List, [], ◌∷◌, Option, None, Some, is_some, max, nat_lt, ◌==◌, if◌then◌else◌}
+use Rattle.std.specs.Prelude.{ℕ, ◌+◌, Bool, true, false, ◌&&◌, List, [], ◌∷◌, Option, None, Some, is_some, max, nat_lt, ◌==◌, if◌then◌else◌}
 use Rattle.circus_segment.specs.Segment.{Piece, is_acknowledgement}
 use Rattle.circus_segment.specs.Cut.{segment_count}
 use Rattle.circus_pair.specs.Taken.{total_in}
@@ -54,9 +54,3 @@ is_taken first format acts ts is_sent s =
     if is_acknowledgement s
     then (if s.kind == 0 then is_sent s.call && agrees_with (call_at first acts s.call) s.total else agrees_with (return_at acts s.call) s.total)
     else (if s.kind == 0 then fits_with (total_in ts s.kind s.call) s.total else is_sent s.call && fits_with (total_in ts s.kind s.call) s.total))
-
--- no call is returned twice
-abbrev pub ReturnsOnce : Acts → Type 0
-ReturnsOnce none_yet = Unit {0}
-ReturnsOnce (more acts (Return call message)) = ReturnsOnce acts × (return_at acts call ≡ None)
-ReturnsOnce (more acts act) = ReturnsOnce acts

@@ -110,9 +110,9 @@ pub fn field_names<C: WithTypeCauses>(
 fn note_unknown<N: TypeNames, C: WithTypeCauses>(names: &N, best: &mut Best<C>, name: &TypeName)
     ensures { best.new.fault
         ≡ least_from C.rank best.old.fault
-        (faults.unknown_faults C.embed (N.unknown names.now name.now)) }
+        (faults.unknown_faults C.embed (N.unknown_place names.now name.now)) }
 {
-    if let Some(place) = names.unknown(name) {
+    if let Some(place) = names.unknown_place(name) {
         best.note(true, place, C::of_type(TypeCause::Unknown));
     }
 }
@@ -127,7 +127,7 @@ pub fn check_inside<N: TypeNames, C: WithTypeCauses>(
 ) -> Result<(), NoMemory>
     ensures { OnOk result
         (best.new.fault ≡ least_from C.rank best.old.fault
-        (faults.inside C.embed (N.unknown names.now) (tree_of shape.now))) }
+        (faults.inside C.embed (N.unknown_place names.now) (tree_of shape.now))) }
 {
     match &shape.kind {
         TypeKind::Enumeration(list) => labels(alloc, best, list.as_slice()),
@@ -183,7 +183,7 @@ pub fn inside_groups<N: TypeNames, C: WithTypeCauses>(
 ) -> Result<(), NoMemory>
     ensures { OnOk result
         (best.new.fault ≡ least_from C.rank best.old.fault
-        (faults.inside_groups C.embed (N.unknown names.now)
+        (faults.inside_groups C.embed (N.unknown_place names.now)
         (group_trees (map group_of groups.now)))) }
 {
     for group in groups {
@@ -201,7 +201,7 @@ fn inside_arms<N: TypeNames, C: WithTypeCauses>(
 ) -> Result<(), NoMemory>
     ensures { OnOk result
         (best.new.fault ≡ least_from C.rank best.old.fault
-        (faults.inside_arms C.embed (N.unknown names.now) (arm_trees (map arm_of arms.now)))) }
+        (faults.inside_arms C.embed (N.unknown_place names.now) (arm_trees (map arm_of arms.now)))) }
 {
     for arm in arms {
         if !is_empty_record(&arm.shape) {

@@ -12,7 +12,7 @@ use circus_value::{NoMemory, Shape};
 /// What the names of types stand for where a type is written.
 pub trait TypeNames {
     /// The place of what is unknown in a name, where it stands for no type.
-    ghost unknown: { Self → Called → Option ℕ };
+    ghost unknown_place: { Self → Called → Option ℕ };
 
     /// The size of what a name stands for.
     ghost sizes: { Self → Called → Size };
@@ -21,8 +21,8 @@ pub trait TypeNames {
     ghost forms: { Self → Called → ShapeTree };
 
     /// The place of what is unknown in the name, where it stands for no type.
-    fn unknown(&self, name: &TypeName) -> Option<u32>
-        ensures { result ≡ unknown self.now name.now };
+    fn unknown_place(&self, name: &TypeName) -> Option<u32>
+        ensures { result ≡ unknown_place self.now name.now };
 
     /// The size of the type that the name stands for; a name that stands for none has some size.
     fn measure(&self, name: &TypeName) -> Measure

@@ -40,7 +40,7 @@ fn found_inside<N: TypeNames, C: WithTypeCauses>(
 ) -> Result<Best<C>, NoMemory>
     ensures { IfOk result (λ own.
         own.fault ≡ least_from C.rank None
-        (faults.inside C.embed (N.unknown names.now) (tree_of shape.now))) }
+        (faults.inside C.embed (N.unknown_place names.now) (tree_of shape.now))) }
 {
     let mut own: Best<C> = Best { fault: None };
     check_inside(alloc, names, &mut own, shape)?;
@@ -59,7 +59,7 @@ pub fn whole<N: TypeNames, C: WithTypeCauses>(
     shape: &TypeText,
 ) -> Result<Measure, NoMemory>
     ensures found { OnOk result (best.new.fault ≡ least_from C.rank best.old.fault
-        (whole_faults C.embed cut_off (N.unknown names.now)
+        (whole_faults C.embed cut_off (N.unknown_place names.now)
         (N.sizes names.now) within parts.old count (tree_of shape.now))) }
     ensures counted { OnOk result
         (parts.new ≡ more_parts parts.old count

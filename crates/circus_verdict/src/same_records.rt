@@ -31,12 +31,7 @@ impl Same for Difference {
 
 impl Same for Joiner {
     fn is_same(&self, other: &Self) -> bool {
-        match (self, other) {
-            (Joiner::Outside, Joiner::Outside) | (Joiner::Asking, Joiner::Asking) => true,
-            (Joiner::Fetching(one), Joiner::Fetching(two)) => one == two,
-            (Joiner::Active(one), Joiner::Active(two)) => one == two,
-            _ => false,
-        }
+        self == other
     }
 }
 
@@ -83,17 +78,13 @@ impl Same for MemberRecord {
 
 impl Same for Since {
     fn is_same(&self, other: &Self) -> bool {
-        match (self, other) {
-            (Since::Joining, Since::Joining) => true,
-            (Since::From(one), Since::From(two)) => one == two,
-            _ => false,
-        }
+        self == other
     }
 }
 
 impl Same for Entry {
     fn is_same(&self, other: &Self) -> bool {
-        self.node == other.node && self.since.is_same(&other.since)
+        self == other
     }
 }
 

@@ -48,11 +48,11 @@ all_lawful m = m.is
 
 -- ---- lists of them
 
-lifted : (program : List Behaviour) → AreModules program → List Lawful
+pub lifted : (program : List Behaviour) → AreModules program → List Lawful
 lifted [] are = []
 lifted (b ∷ program) are = record { behaves = b; is = are 0 b refl } ∷ lifted program (λ place other at. are (suc place) other at)
 
-lifted_is : (program : List Behaviour) (are : AreModules program) → map one (lifted program are) ≡ program
+pub lifted_is : (program : List Behaviour) (are : AreModules program) → map one (lifted program are) ≡ program
 unfolding lifted
 lifted_is [] are = refl
 lifted_is (b ∷ program) are = ap (λ l. b ∷ l) (lifted_is program (λ place other at. are (suc place) other at))
@@ -79,7 +79,7 @@ all_is [] are = refl
 all_is (own ∷ hosted) are =
     (λ i. one_is own (λ b is. are 0 b (ap (λ (o : Option Behaviour). Some o) is)) i ∷ all_is hosted (λ node b at. are (suc node) b at) i)
 
-declared_are : (modules : List Lawful) → map declared modules ≡ map declared_of (map one modules)
+pub declared_are : (modules : List Lawful) → map declared modules ≡ map declared_of (map one modules)
 declared_are [] = refl
 declared_are (m ∷ modules) = ap (λ l. declared m ∷ l) (declared_are modules)
 

@@ -44,7 +44,7 @@ use Rattle.circus_verdict.proofs.Possible.Giving.{heard, gives_well}
 use Rattle.circus_verdict.proofs.Possible.RingGiving.{ring_gives_well}
 use Rattle.circus_verdict.proofs.Possible.Views.{ring_possible}
 use Rattle.circus_verdict.proofs.Possible.Whole.{length_is, member_possible}
-use Rattle.circus_program.proofs.Accepting.Recorded.{lifted, lifted_is, declared_are}
+use Rattle.circus_world_theory.proofs.Lawful.{lifted, lifted_is, declared_are}
 use Rattle.circus_program.proofs.Accepting.Serving.{JoinsWell, Reached}
 
 -- what a record says of a node that lived through this

@@ -1,20 +1,19 @@
 -- What a served node writes is a record of it, which is audited.
 use Rattle.std.specs.Option.{option_map_or}
 use Rattle.std.specs.Prelude.{slice_get, IsSome, option_map, option_and_then}
-use Rattle.std.proofs.Common.{◌≡◌, ℕ, suc, Bool, true, false, List, [], ◌∷◌, map, Option, None, Some, Ok, Err, refl, sym, ap, subst, ◌∙◌}
+use Rattle.std.proofs.Common.{◌≡◌, ℕ, Bool, true, false, List, Option, None, Some, Ok, Err, refl, sym, ap, subst, ◌∙◌}
 use Rattle.circus_value.specs.Among.{is_among}
 use Rattle.circus_collate.specs.Deployment.{IsDeployment}
 use Rattle.circus_collate.specs.declared.deployment.Deployment.{Deployment}
 use Rattle.circus_collate.specs.declared.deployment.Host.{Host}
 use Rattle.circus_collate.specs.declared.deployment.Troupe.{Troupe}
-use Rattle.circus_model.specs.Agree.{AreModules}
 use Rattle.circus_model.specs.Behaviour.{Behaviour}
 use Rattle.circus_model.specs.declared.signature.Signature.{Signature}
 use Rattle.circus_outside.specs.declared.link.TakenFrom.{TakenFrom}
 use Rattle.circus_performing.proofs.Records.{none_is_some}
 use Rattle.circus_node.specs.Accepting.{troupe_at}
 use Rattle.circus_node.specs.Alike.{declared_of, turn_of, first_of, node_as, ended_as}
-use Rattle.circus_node.specs.Booting.{CanBoot, AreOfTroupes}
+use Rattle.circus_node.specs.Booting.{CanBoot}
 use Rattle.circus_node.specs.Booting as booting
 use Rattle.circus_node.specs.NodeState.{NodeState}
 use Rattle.circus_node.specs.Step.{Ended}
@@ -32,19 +31,6 @@ use Rattle.circus_program.proofs.Accepting.Serving.{BeginsSo}
 use Rattle.circus_program.proofs.Accepting.Spares.{spare_no_founder, founder_no_spare}
 
 -- ---- lawful modules
-
-pub lifted : (program : List Behaviour) → AreModules program → List Lawful
-lifted [] are = []
-lifted (b ∷ program) are = record { behaves = b; is = are 0 b refl } ∷ lifted program (λ place other at. are (suc place) other at)
-
-pub lifted_is : (program : List Behaviour) (are : AreModules program) → map lawful.one (lifted program are) ≡ program
-unfolding lifted
-lifted_is [] are = refl
-lifted_is (b ∷ program) are = ap (λ l. b ∷ l) (lifted_is program (λ place other at. are (suc place) other at))
-
-pub declared_are : (modules : List Lawful) → map lawful.declared modules ≡ map declared_of (map lawful.one modules)
-declared_are [] = refl
-declared_are (m ∷ modules) = ap (λ l. lawful.declared m ∷ l) (declared_are modules)
 
 abbrev seen : NodeState Lawful → NodeState Behaviour
 seen n = node_as lawful.declared lawful.turn lawful.first n

@@ -12,7 +12,6 @@ use Rattle.circus_model.specs.declared.signature.Signature.{Signature}
 use Rattle.circus_outside.specs.declared.link.TakenFrom.{TakenFrom}
 use Rattle.circus_outside.specs.declared.link.TakenFrom.TheVariants.{From, Nothing}
 use Rattle.circus_wire.specs.Wire.{IsOther}
-use Rattle.circus_member_rules.specs.declared.occurrence.Difference.{Difference}
 use Rattle.circus_member_rules.specs.declared.occurrence.Effect.{Effect}
 use Rattle.circus_node.specs.declared.event.Event.{Event}
 use Rattle.circus_node.specs.declared.event.Event.TheVariants.{Datagram, Tick, Down, Join}
@@ -38,6 +37,7 @@ use Rattle.circus_world_theory.specs.NodeLives.{IsOfBytes}
 use Rattle.circus_world_theory.proofs.Stepping.{same_ended}
 use Rattle.circus_headline_theory.specs.Datagrams.Lives.{IsOfOther}
 use Rattle.circus_headline_theory.specs.Trace.{now, ComesFromOthers}
+use Rattle.circus_headline_theory.proofs.Served.{own_push, own_foreign, other_of}
 use Rattle.circus_headline_theory.specs.ServedRun.{own_happenings, shown_of, IsNumbered}
 use Rattle.circus_audit.specs.declared.given.GivenEvent.{GivenEvent}
 use Rattle.circus_verdict.specs.Audited.{is_join, events_in}
@@ -49,22 +49,6 @@ use Rattle.circus_program.specs.Accepted.{IsFromPort}
 use Rattle.circus_program.proofs.Accepting.Noting.{IsOfPort}
 
 -- ---- what happened
-
-own_push : (xs : List Happening) (event : Event) (gives : List Give) (differences : List Difference)
-    → own_happenings (xs ++ Stepped event gives differences ∷ []) ≡ own_happenings xs ++ Stepped event gives differences ∷ []
-own_push [] event gives differences = refl
-own_push (Booted g ∷ others) event gives differences = ap (λ l. Booted g ∷ l) (own_push others event gives differences)
-own_push (Stepped e g ds ∷ others) event gives differences = ap (λ l. Stepped e g ds ∷ l) (own_push others event gives differences)
-own_push (Foreign p b ∷ others) event gives differences = own_push others event gives differences
-
-own_foreign : (xs : List Happening) (port : ℕ) (bytes : List ℕ) → own_happenings (xs ++ Foreign port bytes ∷ []) ≡ own_happenings xs
-own_foreign [] port bytes = refl
-own_foreign (Booted g ∷ others) port bytes = ap (λ l. Booted g ∷ l) (own_foreign others port bytes)
-own_foreign (Stepped e g ds ∷ others) port bytes = ap (λ l. Stepped e g ds ∷ l) (own_foreign others port bytes)
-own_foreign (Foreign p b ∷ others) port bytes = own_foreign others port bytes
-
-other_of : {M : Type 0} (d : Deployment) (node other : ℕ) (n : NodeState M) → 0 < length d.nodes → IsNodeOf d node n → IsOther n.wire other → (other ≡ node → ⊥) × (other < length d.nodes)
-other_of d node other n some of is = (λ same. is.0 (same ∙ sym of.own), omega (arith, some, is.1, of.pairs))
 
 -- the first thing that happened is its boot
 pub record BeginsWithBoot (happened : List Happening) : Type 0 where

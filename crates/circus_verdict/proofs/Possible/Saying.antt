@@ -1,15 +1,14 @@
 -- The messages of a member whose record may stand in a record of its node are bytes.
-use Rattle.std.specs.List.{AllByRecursion, find}
+use Rattle.std.specs.List.{AllByRecursion}
 use Rattle.std.specs.Option.{option_map_or}
-use Rattle.std.specs.Prelude.{◌==◌, nat_lt, slice_get, unwrap_or, filter, IsSomeAnd}
-use Rattle.std.proofs.Common.{◌≡◌, ℕ, ◌+◌, ◌-◌, ◌⊎◌, inl, inr, Bool, true, false, ◌||◌, if◌then◌else◌, List, [], ◌∷◌, ◌++◌, length, Option, None, Some, refl, sym, subst, ◌∙◌, arith}
+use Rattle.std.specs.Prelude.{nat_lt, slice_get, unwrap_or, filter, IsSomeAnd}
+use Rattle.std.proofs.Common.{◌≡◌, ℕ, ◌+◌, ◌-◌, ◌⊎◌, inl, inr, Bool, true, false, if◌then◌else◌, List, [], ◌∷◌, ◌++◌, length, Option, None, Some, refl, sym, subst, ◌∙◌, arith}
 use Rattle.std.proofs.lemmas.Option.{same_Some}
 use Rattle.circus_value.specs.Fits.{all_fit}
 use Rattle.circus_value.specs.Parts.{AreOctets}
 use Rattle.circus_value.specs.ValueTree.{ValueTree}
 use Rattle.circus_value.specs.declared.caller.Caller.{Caller}
 use Rattle.circus_value.specs.declared.outcome.Outcome.{Outcome}
-use Rattle.circus_value.specs.declared.outcome.Outcome.TheVariants.{Returned, Raised}
 use Rattle.circus_value.specs.declared.shape.Shape.{Shape}
 use Rattle.circus_value.proofs.Octets.{none_octets, both_octets}
 use Rattle.circus_external.specs.Octets.{word}
@@ -24,8 +23,7 @@ use Rattle.circus_collate.specs.declared.view.View.{View}
 use Rattle.circus_ring.specs.RingTable.{boot_views}
 use Rattle.circus_transfer.specs.declared.joiner.Joiner.{Joiner}
 use Rattle.circus_model.specs.Behaviour.{Behaviour, IsModule}
-use Rattle.circus_model.specs.Lawful.{procedure_numbered, import_of, arguments_fit, import_takes, outcome_fits, is_raised_by_language}
-use Rattle.circus_model.specs.declared.signature.ErrorShape.{ErrorShape}
+use Rattle.circus_model.specs.Lawful.{procedure_numbered, import_of, arguments_fit, import_takes, outcome_fits}
 use Rattle.circus_model.specs.declared.signature.Import.{Import}
 use Rattle.circus_model.specs.declared.signature.ProcedureShape.{ProcedureShape}
 use Rattle.circus_config.specs.declared.plan.Plan.{Plan}
@@ -54,6 +52,7 @@ use Rattle.circus_member_theory.proofs.Accepting.Options.{passes_some}
 use Rattle.circus_member_theory.proofs.Accepting.States.{snapshot_octets}
 use Rattle.circus_headline_theory.specs.Datagrams.Due.{WasSo, CallIsDue, IsForState, IsStale, IsBefore, IsReply, ReturnIsDue, header_then}
 use Rattle.circus_headline_theory.specs.NodeRun.{past_of, IsNodeRun}
+use Rattle.circus_headline_theory.proofs.Octets.{outcome_octets}
 use Rattle.circus_headline_theory.specs.Trace.{now}
 use Rattle.circus_audit.specs.Possible.{IsEnded, IsWaiting}
 use Rattle.circus_verdict.proofs.Possible.Hearing.{RisesSo}
@@ -63,22 +62,6 @@ use Rattle.circus_verdict.proofs.Possible.Pasts.{Each, snapshot_holds}
 use Rattle.circus_verdict.proofs.Possible.Performed.{each_from}
 
 -- ---- outcomes and arguments
-
-error_octets : (p : ProcedureShape) (error : ℕ) (values : List ValueTree) (reported : Bool)
-    → option_map_or (λ (e : ErrorShape). all_fit e.arguments values) (find (λ (e : ErrorShape). e.number == error) p.errors) false ≡ reported
-    → (reported || is_raised_by_language error values) ≡ true → AreOctets (spelling_of_all values)
-error_octets p error values true reported is =
-    let e = passes_some (λ (x : ErrorShape). all_fit x.arguments values) (find (λ (x : ErrorShape). x.number == error) p.errors) reported in
-    values_octets e.value.arguments values e.passes
-error_octets p error [] false reported is = none_octets
-error_octets p error (v ∷ values) false reported is = absurd (let clash : false ≡ true = is in cc)
-
-outcome_octets : (p : ProcedureShape) (outcome : Outcome) → outcome_fits p outcome ≡ true → AreOctets (outcome_spelling outcome)
-outcome_octets p (Returned results) fit = both_octets (word 0) (spelling_of_all results) (word_octets 0) (values_octets p.results results fit)
-outcome_octets p (Raised error values) fit =
-    both_octets (word 1) (word error ++ spelling_of_all values) (word_octets 1)
-    (both_octets (word error) (spelling_of_all values) (word_octets error)
-    (error_octets p error values (option_map_or (λ (e : ErrorShape). all_fit e.arguments values) (find (λ (e : ErrorShape). e.number == error) p.errors) false) refl fit))
 
 refusal_octets : AreOctets (outcome_spelling refusal)
 refusal_octets = both_octets (word 1) (word 60007 ++ []) (word_octets 1) (both_octets (word 60007) [] (word_octets 60007) none_octets)

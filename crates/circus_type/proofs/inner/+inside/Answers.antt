@@ -25,7 +25,7 @@ inside_groups-check_inside-requires g t c κs within =
 pub inside_groups-loop-group-preserved : goal.inside_groups-loop-group-preserved
 inside_groups-loop-group-preserved g t c =
     let emb = g.C.WithTypeCauses.embed in
-    let known = g.N.TypeNames.unknown c.args.names.now in
+    let known = g.N.TypeNames.unknown_place c.args.names.now in
     let one = c.group-item.result in
     let left = drop_more c.args.groups.now c.loop-group.group-index one c.loop-group-test.true c.group-item.is in
     let rest = faults.inside_groups emb known (group_trees (map group_of (drop (c.loop-group.group-index + 1) c.args.groups.now))) in
@@ -35,7 +35,7 @@ inside_groups-loop-group-preserved g t c =
 pub check_inside-returns-in_ok-field_names-in-Record : goal.check_inside-returns-in_ok-field_names-in-Record
 check_inside-returns-in_ok-field_names-in-Record g t c =
     let emb = g.C.WithTypeCauses.embed in
-    let known = g.N.TypeNames.unknown c.args.names.now in
+    let known = g.N.TypeNames.unknown_place c.args.names.now in
     let best = c.args.best.now.fault in
     let at = c.args.shape.now.at in
     let gs = c.in-Record.groups in
@@ -54,7 +54,7 @@ check_inside-returns-in_ok-field_names-in-Record g t c =
 pub check_inside-returns-in_ok-arm_labels-in-Choice : goal.check_inside-returns-in_ok-arm_labels-in-Choice
 check_inside-returns-in_ok-arm_labels-in-Choice g t c =
     let emb = g.C.WithTypeCauses.embed in
-    let known = g.N.TypeNames.unknown c.args.names.now in
+    let known = g.N.TypeNames.unknown_place c.args.names.now in
     let best = c.args.best.now.fault in
     let at = c.args.shape.now.at in
     let arms = c.in-Choice.arms in
@@ -69,7 +69,7 @@ check_inside-returns-in_ok-arm_labels-in-Choice g t c =
 pub inside_arms-loop-arm-preserved : goal.inside_arms-loop-arm-preserved
 inside_arms-loop-arm-preserved g t c =
     let emb = g.C.WithTypeCauses.embed in
-    let known = g.N.TypeNames.unknown c.args.names.now in
+    let known = g.N.TypeNames.unknown_place c.args.names.now in
     let a = c.arm-item.result in
     let best = c.loop-arm.best.fault in
     let left = drop_more c.args.arms.now c.loop-arm.arm-index a c.loop-arm-test.true c.arm-item.is in
