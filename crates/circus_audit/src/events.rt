@@ -36,7 +36,8 @@ fn read_addressed(
 ) -> Result<(u16, Message), Unread>
     requires at { at ≤ length line.now }
     requires nodes { length nodes.now ≤ 2 ^ 16 }
-    ensures { GivesAll result (events.node_and_bytes (map host_name nodes.now) own (drop at line.now)) }
+    ensures { GivesAll result
+        (events.node_and_bytes (map host_name nodes.now) own (drop at line.now)) }
 {
     let (node, next) = read_other(line, at, nodes, own)?;
     let inner = pass(line, next, SPACE)?;

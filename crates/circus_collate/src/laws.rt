@@ -11,7 +11,8 @@ ghost use Rattle.circus_collate.specs.declared.collating.Collated.TheVariants as
 pub fn given_values_were_said<V: Eq>()
     ensures { (expected : V → List ℕ) (said : List (Arrival V)) (collator : Collator)
         (down : List ℕ) (place : ℕ)
-        → giving.place_of_value V.eq expected said collator down ≡ Some place → place < length said }
+        → giving.place_of_value V.eq expected said collator down ≡ Some place
+        → place < length said }
 {}
 
 /// Under `Majority` and `AtLeast` a value is given exactly where more than half of those that are expected to say

@@ -476,7 +476,8 @@ fn arm_test(reader: &mut Reader<'_>, left: Expression) -> Result<Expression, NoM
 // Stops where a further operator of the chain would be a level too many.
 fn stop_linked(reader: &mut Reader<'_>, left: Expression, of: Chain) -> Result<Expression, NoMemory>
     ensures { IfOk result (λ read.
-        show_as (lean_left (tree_of left)) (no_further of reader.old) ≡ (tree_of read, reader.new)) }
+        show_as (lean_left (tree_of left)) (no_further of reader.old)
+        ≡ (tree_of read, reader.new)) }
 {
     let at = left.at;
     let left = Operand::new(reader.alloc(), left)?;

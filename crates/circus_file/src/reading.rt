@@ -19,7 +19,8 @@ use circus_value::NoMemory;
 /// places are that of the stop (docs/LANGUAGE.md, "Program files"). `NoMemory` is the only fault.
 pub fn program(reader: &mut Reader<'_>) -> Result<ProgramText, NoMemory>
     ensures { IfOk result (λ read.
-        show_as program_stands_for (program most_levels reader.old) ≡ (program_of read, reader.new)) }
+        show_as program_stands_for (program most_levels reader.old)
+        ≡ (program_of read, reader.new)) }
 {
     let format = heading(reader);
     let interfaces = interfaces(reader)?;

@@ -16,7 +16,8 @@ use circus_value::NoMemory;
 /// A list of expressions, or a stop where its bracket is missing.
 pub fn required_list(reader: &mut Reader<'_>, levels: u8) -> Result<Expressions, NoMemory>
     ensures { IfOk result (λ read.
-        show_as (map expression.stands_for) (required_list levels reader.old) ≡ (read, reader.new)) }
+        show_as (map expression.stands_for) (required_list levels reader.old)
+        ≡ (read, reader.new)) }
 {
     if reader.sees_sign(b"[") {
         return list_text(reader, levels);

@@ -201,7 +201,8 @@ fn inside_arms<N: TypeNames, C: WithTypeCauses>(
 ) -> Result<(), NoMemory>
     ensures { OnOk result
         (best.new.fault ≡ least_from C.rank best.old.fault
-        (faults.inside_arms C.embed (N.unknown_place names.now) (arm_trees (map arm_of arms.now)))) }
+        (faults.inside_arms C.embed (N.unknown_place names.now)
+        (arm_trees (map arm_of arms.now)))) }
 {
     for arm in arms {
         if !is_empty_record(&arm.shape) {
