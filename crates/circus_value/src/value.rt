@@ -214,7 +214,7 @@ fn append(alloc: Global, items: &mut Option<Rc<Vec<Value>>>, item: Value) -> Res
     match items {
         Some(items) => Rc::make_mut(items)?.push(item)?,
         None => {
-            let mut first = Vec::new(alloc);
+            let mut first = Vec::with_capacity(alloc, 1)?;
             first.push(item)?;
             *items = Some(Rc::new(alloc, first)?);
         }
