@@ -11,6 +11,9 @@ mod WholeObeys
 pub mod Obeying
 mod FoundWhole
 mod RuleFaults
+mod Fronts
+mod OneStop
+mod OneAnswer
 mod ReadIs
 mod Places
 mod PlainTypes

@@ -13,12 +13,14 @@ use Rattle.circus_syntax.specs.declared.stopping.StopCause.TheVariants.{Unexpect
 use Rattle.circus_syntax.specs.InterfaceTree.{InterfaceTree, interface_of}
 use Rattle.circus_syntax.specs.Placed.{Placed, placed_of, AreTokens}
 use Rattle.circus_syntax.specs.Read.{placed_from, Answers}
-use Rattle.circus_syntax.specs.Reader.{Reader, open_at, place_in}
+use Rattle.circus_syntax.specs.Reader.{open_at, place_in}
 use Rattle.circus_syntax.specs.Reading.{interface}
 use Rattle.circus_syntax.specs.Spelling.{IsInterface, IsWithin, most_levels}
 use Rattle.circus_syntax.specs.Stopping.{IsUnexpected, IsTooDeep}
+use Rattle.circus_syntax.proofs.Interfaces.{sound_interface}
+use Rattle.circus_syntax.proofs.Sound.{ran_is}
 use Rattle.circus_syntax.proofs.Viewed.{text_tokens}
-use Rattle.circus_syntax.proofs.Whole.{interface_read, interface_whole, interface_filled_in, interface_unexpected, interface_too_deep}
+use Rattle.circus_syntax.proofs.Whole.{interface_whole, interface_filled_in, interface_unexpected, interface_too_deep}
 use Rattle.circus_fault.specs.declared.fault.Fault.{Fault}
 use Rattle.circus_fault.specs.Least.{least_from}
 use Rattle.circus_fault.proofs.Items.{none_in, of_each}
@@ -34,7 +36,8 @@ use Rattle.circus_idl.specs.Rank.{rank_of}
 use Rattle.circus_idl.specs.Answer.{answer_at, answer_of}
 use Rattle.circus_idl.specs.Faults.{cut_of, interface_faults, read_faults}
 use Rattle.circus_idl.specs.Means.{Means}
-use Rattle.circus_idl.specs.ReadAt.{IsReadAt, IsTreeOf, IsRefused}
+use Rattle.circus_idl.specs.ReadAt.{IsReadAt, IsStopOf, IsStoppedIn, IsTreeOf, IsRefused}
+use Rattle.circus_idl.proofs.OneAnswer.{not_refused}
 use Rattle.circus_idl.proofs.RuleFaults.{IsOfRule, interface_rule}
 
 -- What is accepted.
@@ -65,27 +68,25 @@ is_read text ts at read i tokens inside answers none means =
 pub none_refused : (text : List ℕ) (ts : List Token) (at : ℕ) (answer : IdlFault) (own rest : List Placed) (tree : InterfaceTree) → placed_from text ts at ≡ own ++ rest → IsInterface own tree → IsWithin most_levels tree
     → interface_faults (cut_of None) tree ≡ [] → (answer ≡ NoMemory) ⊎ IsRefused text ts at answer → answer ≡ NoMemory
 none_refused text ts at answer own rest tree whole spelled within none (inl no_memory) = no_memory
-none_refused text ts at answer own rest tree whole spelled within none (inr refused) =
-    let read = refused.read in
-    let end = length text in
-    let is : (tree, open_at rest end) ≡ (interface_of read.interface, record { rest = refused.answers.left; end = end; stop = read.stop }) =
-    sym (interface_read own rest tree end spelled within) ∙ ap (λ ts. interface most_levels (open_at ts end)) (sym whole) ∙ refused.answers.is in
-    let tree_is = ap (λ (x : InterfaceTree × Reader). x.0) is in
-    let stop_is = ap (λ (x : InterfaceTree × Reader). x.1.stop) is in
-    let faults : read_faults read.stop (interface_of read.interface) ≡ [] = (λ i. read_faults (sym stop_is i) (sym tree_is i)) ∙ none in
-    absurd (of_each (λ _. ⊥) [] refused.fault tt (subst (λ fs. Contains fs refused.fault) faults refused.least.found))
+none_refused text ts at answer own rest tree whole spelled within none (inr refused) = absurd (not_refused text ts at answer tree (own, rest, whole, spelled, within) none refused)
 
 -- What is refused.
 
-stop_place : (ts left : List Placed) (tree : InterfaceTree) (s : Stop) (end : ℕ) → AreTokens ts → interface most_levels (open_at ts end) ≡ (tree, record { rest = left; end = end; stop = Some s })
-    → (c : StopCause) → s.cause ≡ c → s.place ≡ place_in left end
-stop_place ts left tree s end tokens is Unexpected flat = (interface_unexpected ts left tree s end tokens is flat).1
-stop_place ts left tree s end tokens is TooDeep deep = (interface_too_deep ts left tree s end tokens is deep).1
+is_stopped : (ts left : List Placed) (tree : InterfaceTree) (s : Stop) (end : ℕ) → AreTokens ts → interface most_levels (open_at ts end) ≡ (tree, record { rest = left; end = end; stop = Some s })
+    → (c : StopCause) → s.cause ≡ c → IsStopOf c ts left × (s.place ≡ place_in left end)
+is_stopped ts left tree s end tokens is Unexpected flat = interface_unexpected ts left tree s end tokens is flat
+is_stopped ts left tree s end tokens is TooDeep deep = interface_too_deep ts left tree s end tokens is deep
 
 is_tree_of : (ts left : List Placed) (tree : InterfaceTree) (stop : Option Stop) (end : ℕ) → AreTokens ts → interface most_levels (open_at ts end) ≡ (tree, record { rest = left; end = end; stop = stop })
     → IsTreeOf ts end stop tree
 is_tree_of ts left tree None end tokens is = let (own, parts, spelled, within) = interface_whole ts left tree end tokens is in (own, left, parts, spelled, within)
-is_tree_of ts left tree (Some s) end tokens is = (left, interface_filled_in ts left tree s end tokens is, stop_place ts left tree s end tokens is s.cause refl)
+is_tree_of ts left tree (Some s) end tokens is =
+    let (cause, place) = is_stopped ts left tree s end tokens is s.cause refl in
+    record { left = left; cause = cause; place = place; filled = interface_filled_in ts left tree s end tokens is }
+
+-- tokens come to some tree
+pub some_reading : (ts : List Placed) (end : ℕ) → AreTokens ts → (stop : Option Stop) × (tree : InterfaceTree) × IsTreeOf ts end stop tree
+some_reading ts end tokens = let R = (sound_interface most_levels).runs ts end in (R.stop, R.tree, is_tree_of ts R.left R.tree R.stop end tokens (ran_is R))
 
 pub is_refused : (text : List ℕ) (ts : List Token) (at : ℕ) (read : Read) (answer : IdlFault) → All (IsTokenIn text) ts → Answers text ts at read
     → (answer ≡ NoMemory) ⊎ ((f : Fault Cause) × (least_from rank_of None (read_faults read.stop (interface_of read.interface)) ≡ Some f) × (answer ≡ answer_of f))
@@ -93,9 +94,9 @@ pub is_refused : (text : List ℕ) (ts : List Token) (at : ℕ) (read : Read) (a
 is_refused text ts at read answer tokens answers (inl no_memory) = inl no_memory
 is_refused text ts at read answer tokens answers (inr (f, least, given)) =
     inr (record {
-      read = read;
-      answers = answers;
-      tree = is_tree_of (placed_from text ts at) answers.left (interface_of read.interface) read.stop (length text) (text_tokens text ts at tokens) answers.is;
+      stop = read.stop;
+      tree = interface_of read.interface;
+      tree_of = is_tree_of (placed_from text ts at) answers.left (interface_of read.interface) read.stop (length text) (text_tokens text ts at tokens) answers.is;
       fault = f;
       least = least_is rank_of (read_faults read.stop (interface_of read.interface)) f least;
       given = given;
@@ -141,6 +142,14 @@ of_stop stop tree f reading there =
       | inr rules ↦ absurd (let of_rule : 1 < rank_of f.cause = of_each IsOfRule _ f (interface_rule (cut_of stop) tree) rules in omega arith)
     ]
 
+-- reading stopped for this cause, in front of what is left
+stopped_for : (ts : List Placed) (end : ℕ) (stop : Option Stop) (tree : InterfaceTree) (f : Fault Cause) (c : StopCause) → IsTreeOf ts end stop tree → (is : IsStop stop f)
+    → (cause_of cause.Expected cause.Deep is.at.cause ≡ cause_of cause.Expected cause.Deep c → is.at.cause ≡ c) → f.cause ≡ cause_of cause.Expected cause.Deep c
+    → (left : List Placed) × IsStopOf c ts left × (f.place ≡ place_in left end)
+stopped_for ts end stop tree f c tree_of is one because =
+    let stopped : IsStoppedIn ts end is.at tree = subst (λ o. IsTreeOf ts end o tree) is.stop_is tree_of in
+    (stopped.left, subst (λ d. IsStopOf d ts stopped.left) (one (sym is.cause_is ∙ because)) stopped.cause, is.place_is ∙ stopped.place)
+
 flat : (c : StopCause) → cause_of cause.Expected cause.Deep c ≡ cause.Expected → c ≡ Unexpected
 flat Unexpected is = refl
 flat TooDeep is = absurd (cc)
@@ -149,32 +158,22 @@ deep : (c : StopCause) → cause_of cause.Expected cause.Deep c ≡ cause.Deep �
 deep TooDeep is = refl
 deep Unexpected is = absurd (cc)
 
-stopped_at : (text : List ℕ) (ts : List Token) (at : ℕ) (read : Read) (s : Stop) (answers : Answers text ts at read) → read.stop ≡ Some s
-    → interface most_levels (open_at (placed_from text ts at) (length text)) ≡ (interface_of read.interface, record { rest = answers.left; end = length text; stop = Some s })
-stopped_at text ts at read s answers is = answers.is ∙ ap (λ o. (interface_of read.interface, record { rest = answers.left; end = length text; stop = o })) is
-
-pub is_unexpected : (text : List ℕ) (ts : List Token) (at : ℕ) (answer : IdlFault) (place : ℕ) → All (IsTokenIn text) ts → (answer ≡ NoMemory) ⊎ IsRefused text ts at answer → answer ≡ Expected place
+pub is_unexpected : (text : List ℕ) (ts : List Token) (at : ℕ) (answer : IdlFault) (place : ℕ) → (answer ≡ NoMemory) ⊎ IsRefused text ts at answer → answer ≡ Expected place
     → (left : List Placed) × IsUnexpected (placed_from text ts at) left × (place ≡ place_in left (length text))
-is_unexpected text ts at answer place tokens (inl no_memory) is = absurd (cc)
-is_unexpected text ts at answer place tokens (inr refused) is =
+is_unexpected text ts at answer place (inl no_memory) is = absurd (cc)
+is_unexpected text ts at answer place (inr refused) is =
     let f = refused.fault in
-    let read = refused.read in
     let (because, where_is) = at_expected f.place f.cause place (sym refused.given ∙ is) in
-    let s = of_stop read.stop (interface_of read.interface) f (omega (arith, ap rank_of because)) refused.least.found in
-    let (unexpected, stands) =
-    interface_unexpected (placed_from text ts at) refused.answers.left (interface_of read.interface) s.at (length text) (text_tokens text ts at tokens)
-    (stopped_at text ts at read s.at refused.answers s.stop_is) (flat s.at.cause (sym s.cause_is ∙ because)) in
-    (refused.answers.left, unexpected, sym where_is ∙ s.place_is ∙ stands)
+    let s = of_stop refused.stop refused.tree f (omega (arith, ap rank_of because)) refused.least.found in
+    let (left, unexpected, stands) = stopped_for (placed_from text ts at) (length text) refused.stop refused.tree f Unexpected refused.tree_of s (flat s.at.cause) because in
+    (left, unexpected, sym where_is ∙ stands)
 
-pub is_too_deep : (text : List ℕ) (ts : List Token) (at : ℕ) (answer : IdlFault) (place : ℕ) → All (IsTokenIn text) ts → (answer ≡ NoMemory) ⊎ IsRefused text ts at answer → answer ≡ Deep place
+pub is_too_deep : (text : List ℕ) (ts : List Token) (at : ℕ) (answer : IdlFault) (place : ℕ) → (answer ≡ NoMemory) ⊎ IsRefused text ts at answer → answer ≡ Deep place
     → (left : List Placed) × IsTooDeep (placed_from text ts at) left × (place ≡ place_in left (length text))
-is_too_deep text ts at answer place tokens (inl no_memory) is = absurd (cc)
-is_too_deep text ts at answer place tokens (inr refused) is =
+is_too_deep text ts at answer place (inl no_memory) is = absurd (cc)
+is_too_deep text ts at answer place (inr refused) is =
     let f = refused.fault in
-    let read = refused.read in
     let (because, where_is) = at_deep f.place f.cause place (sym refused.given ∙ is) in
-    let s = of_stop read.stop (interface_of read.interface) f (omega (arith, ap rank_of because)) refused.least.found in
-    let (too_deep, stands) =
-    interface_too_deep (placed_from text ts at) refused.answers.left (interface_of read.interface) s.at (length text) (text_tokens text ts at tokens)
-    (stopped_at text ts at read s.at refused.answers s.stop_is) (deep s.at.cause (sym s.cause_is ∙ because)) in
-    (refused.answers.left, too_deep, sym where_is ∙ s.place_is ∙ stands)
+    let s = of_stop refused.stop refused.tree f (omega (arith, ap rank_of because)) refused.least.found in
+    let (left, too_deep, stands) = stopped_for (placed_from text ts at) (length text) refused.stop refused.tree f TooDeep refused.tree_of s (deep s.at.cause) because in
+    (left, too_deep, sym where_is ∙ stands)

@@ -4,7 +4,7 @@
 //! reads one: `check` goes over its tree, `draft` makes the interface from it, `declarations` and `scope` keep what
 //! is declared before a place, and `types` is the table of the types; `limits` has the limits, and `fault` why a text is
 //! refused. `show` writes an interface, token by token in `writer`, with the names of errors in `errors_by_number`. `laws` has
-//! what holds of every text that is shown.
+//! what holds of every text that is shown, and of the tokens of every text.
 #![tactic(auto)]
 
 mod check;
@@ -28,6 +28,6 @@ pub use idl_fault::IdlFault;
 pub use interface::{
     Declared, DeclaredError, DeclaredType, Errors, Interface, Procedure, Procedures,
 };
-pub use laws::{shown_has_tokens, shown_is_read};
+pub use laws::{one_reading, one_refusal, shown_has_tokens, shown_is_read};
 pub use read::read_interface;
 pub use show::show_interface;

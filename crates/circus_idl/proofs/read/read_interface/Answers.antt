@@ -30,12 +30,12 @@ returns-in_err-interface-clause-err c =
 
 pub returns-in_err-interface-clause-expected : goal.returns-in_err-interface-clause-expected
 returns-in_err-interface-clause-expected c = λ place is.
-    is_unexpected _ _ _ _ place c.requires.of_text (refused (goal.at.returns-in_err-interface-clause-expected c).In_err-interface)
+    is_unexpected _ _ _ _ place (refused (goal.at.returns-in_err-interface-clause-expected c).In_err-interface)
     (given c.from_residual-in_err-interface.result c.in_err-interface.field-0.0 _ c.from_residual-in_err-interface.ensures.1 is)
 
 pub returns-in_err-interface-clause-deep : goal.returns-in_err-interface-clause-deep
 returns-in_err-interface-clause-deep c = λ place is.
-    is_too_deep _ _ _ _ place c.requires.of_text (refused (goal.at.returns-in_err-interface-clause-deep c).In_err-interface)
+    is_too_deep _ _ _ _ place (refused (goal.at.returns-in_err-interface-clause-deep c).In_err-interface)
     (given c.from_residual-in_err-interface.result c.in_err-interface.field-0.0 _ c.from_residual-in_err-interface.ensures.1 is)
 
 pub returns-in_err-interface-clause-accepts : goal.returns-in_err-interface-clause-accepts
