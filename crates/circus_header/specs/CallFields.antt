@@ -16,6 +16,10 @@ ask_fields h =
     ∷ word h.server ∷ long h.server_incarnation ∷ word h.procedure
     ∷ word (length h.clock) ∷ map long h.clock
 
+-- the header with these incarnations of the views of the client and of the server
+abbrev pub naming : CallHeader → ℕ → ℕ → CallHeader
+naming h client server = record h { client_incarnation = client; server_incarnation = server }
+
 -- which request, of which troupe, with a node and a count where it has them
 abbrev pub request_fields : Request → List Field
 request_fields (Lookup troupe) = word 0 ∷ word troupe ∷ word 0 ∷ long 0 ∷ []

@@ -19,4 +19,4 @@ pub use laws::{
     equal_replies_are_the_same, headers_are_read, no_header_begins_another, one_answer,
 };
 pub use reading::{long, read_call, read_call_parts, read_return, read_return_parts, word};
-pub use writing::{push_long, push_word, write_call, write_return};
+pub use writing::{ask_bytes, push_long, push_word, reply_bytes, write_call, write_return};

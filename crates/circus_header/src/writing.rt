@@ -1,7 +1,9 @@
 // Headers, written.
-ghost use Rattle.std.specs.Prelude.{◌≡◌, ◌++◌, ◌∷◌, [], ◌<◌, length, map, OnOk, OnErr};
+ghost use Rattle.std.specs.Prelude.{◌≡◌, ◌++◌, ◌∷◌, [], ◌<◌, length, map, OnOk, OnErr, IfOk};
 ghost use Rattle.circus_header.specs.Field.{word, long, bytes_of};
-ghost use Rattle.circus_header.specs.CallFields.{call_fields, ask_fields, request_fields, IsCall, IsAsk, IsRequest};
+ghost use Rattle.circus_header.specs.declared.call.Call.TheVariants.{Ask};
+ghost use Rattle.circus_header.specs.declared.answer.ReturnHeader.TheVariants.{Reply};
+ghost use Rattle.circus_header.specs.CallFields.{call_fields, ask_fields, request_fields, naming, IsCall, IsAsk, IsRequest};
 ghost use Rattle.circus_header.specs.ReturnFields.{return_fields, IsReturn};
 ghost use Rattle.circus_header.specs.Seen.Written.{Written};
 
@@ -9,6 +11,54 @@ use crate::{Call, CallHeader, Request, ReturnHeader};
 use circus_external::{write_long, write_word};
 use circus_value::{Clock, ListOf, Message, NoMemory, Path};
 use std::alloc::Global;
+
+// The bytes of an ask's header but for its path and its clock, and those of a reply's but for its clock.
+const ASK_LEN: usize = 26;
+
+const REPLY_LEN: usize = 4;
+
+/// The bytes of an ask, written once at their length: its header, which names these incarnations of the views of the client
+/// and of the server, and behind it the arguments (docs/FORMATS.md, "Headers"). `NoMemory` is the one fault.
+pub fn ask_bytes(
+    alloc: Global,
+    header: &CallHeader,
+    client_incarnation: u32,
+    server_incarnation: u32,
+    arguments: &Message,
+) -> Result<Message, NoMemory>
+    requires { IsAsk (naming header.now client_incarnation server_incarnation) }
+    ensures { IfOk result (λ bytes.
+        bytes ≡ bytes_of
+        (call_fields (Ask (naming header.now client_incarnation server_incarnation)))
+        ++ arguments.now) }
+{
+    let len = ASK_LEN + 2 * header.path.len() + 4 * header.clock.len();
+    let mut bytes = with_room(alloc, len.saturating_add(arguments.len()))?;
+    push_word(0, &mut bytes)?;
+    push_ask(header, client_incarnation, server_incarnation, &mut bytes)?;
+    bytes.append(arguments.as_slice())?;
+    Ok(bytes)
+}
+
+/// The bytes of a reply's header, with room for so many bytes behind them (docs/FORMATS.md, "Headers"). `NoMemory` is the
+/// one fault.
+pub fn reply_bytes(alloc: Global, clock: &Clock, room: usize) -> Result<Message, NoMemory>
+    requires { IsReturn (Reply clock.now) }
+    ensures { IfOk result (λ bytes. bytes ≡ bytes_of (return_fields (Reply clock.now))) }
+{
+    let len = REPLY_LEN + 4 * clock.len();
+    let mut bytes = with_room(alloc, len.saturating_add(room))?;
+    push_word(0, &mut bytes)?;
+    push_clock(clock, &mut bytes)?;
+    Ok(bytes)
+}
+
+// No bytes yet, and room for so many.
+fn with_room(alloc: Global, len: usize) -> Result<Message, NoMemory>
+    ensures { IfOk result (λ bytes. bytes ≡ []) }
+{
+    Ok(ListOf::of(Vec::with_capacity(alloc, len)?))
+}
 
 /// Adds the bytes of a call message's header at the end of `out` (docs/FORMATS.md, "Headers").
 ///
@@ -43,7 +93,12 @@ fn push_call(call: &Call, out: &mut Message) -> Result<(), NoMemory>
     match call {
         Call::Ask(header) => {
             push_word(0, out)?;
-            push_ask(header, out)
+            push_ask(
+                header,
+                header.client_incarnation,
+                header.server_incarnation,
+                out,
+            )
         }
         Call::Ring(request) => {
             push_word(1, out)?;
@@ -57,17 +112,25 @@ fn push_call(call: &Call, out: &mut Message) -> Result<(), NoMemory>
     }
 }
 
-fn push_ask(header: &CallHeader, out: &mut Message) -> Result<(), NoMemory>
-    requires { IsAsk header.now }
-    ensures { OnOk result (Written out.old (ask_fields header.now) out.new) }
+// The header with these incarnations in the place of its own.
+fn push_ask(
+    header: &CallHeader,
+    client_incarnation: u32,
+    server_incarnation: u32,
+    out: &mut Message,
+) -> Result<(), NoMemory>
+    requires { IsAsk (naming header.now client_incarnation server_incarnation) }
+    ensures { OnOk result
+        (Written out.old
+        (ask_fields (naming header.now client_incarnation server_incarnation)) out.new) }
 {
     push_word(header.root, out)?;
     push_path(&header.path, out)?;
     push_word(header.client, out)?;
-    push_long(header.client_incarnation, out)?;
+    push_long(client_incarnation, out)?;
     push_long(header.client_index, out)?;
     push_word(header.server, out)?;
-    push_long(header.server_incarnation, out)?;
+    push_long(server_incarnation, out)?;
     push_word(header.procedure, out)?;
     push_clock(&header.clock, out)
 }
