@@ -8,7 +8,7 @@ ghost use Rattle.circus_external.specs.Octets.{word};
 ghost use Rattle.circus_external.specs.Spelling.{spelling, spelling_of_all, fields_admit, bytes_of_pieces, number, contents};
 
 use crate::piece::{write_content, write_long, write_word};
-use circus_value::{ListOf, Message, NoMemory, Shape, Value, Values, fits};
+use circus_value::{ListOf, Message, NoMemory, Shape, Value, Values, fits, values_size};
 use std::alloc::Global;
 
 /// Appends the spelling of a value that a shape admits (docs/FORMATS.md, "External data"). After
@@ -31,7 +31,7 @@ pub fn write_all(alloc: Global, values: &Values, out: &mut Message) -> Result<()
     ensures ok { OnOk result (out.new ≡ out.old ++ spelling_of_all values.now) }
     ensures err { OnErr result (out.new ≡ out.old) }
 {
-    let mut bytes = ListOf::new(alloc);
+    let mut bytes = ListOf::of(Vec::with_capacity(alloc, values_size(values) as usize)?);
     spell_all(values, &mut bytes)?;
     out.append(bytes.as_slice())
 }
