@@ -10,7 +10,7 @@ use Rattle.circus_place.specs.Written.{Written}
 use Rattle.circus_place.specs.Written as written
 use Rattle.circus_place.specs.declared.start.AloneStart.{AloneStart}
 use Rattle.circus_place.specs.Grammar.{or_word, and_word}
-use Rattle.circus_place.specs.Reading.{no_deeper, alone_start, alone_by, parts_behind, join_chain, chain, negation, further_and, further_or, conjunct, condition, group_behind_not, group_or_relation, with_further, with_further_and, with_further_or}
+use Rattle.circus_place.specs.Seen.Reading.{no_deeper, alone_start, alone_by, parts_behind, join_chain, chain, negation, further_and, further_or, conjunct, condition, group_behind_not, group_or_relation, with_further, with_further_and, with_further_or}
 
 chained_none : (operator : Lexeme) (part : Reader → Written × Reader) (further : Reader → List Written × Reader) (r : Reader) (b : Bool) → b ≡ sees (is_lexeme operator) r → b ≡ false → parts_behind operator part further r ≡ ([], r)
 chained_none operator part further r b seen missed = rw (← seen, missed) refl

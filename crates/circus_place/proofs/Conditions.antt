@@ -26,7 +26,7 @@ use Rattle.circus_place.specs.declared.start.AloneStart.{AloneStart}
 use Rattle.circus_place.specs.declared.start.AloneStart.TheVariants as begins
 use Rattle.circus_place.specs.Written.{Written, or, and, not, group, differ, compare, holds}
 use Rattle.circus_place.specs.Grammar.{truth_word, spelling_operand, sign_of, or_word, and_word, ors, ands, opened_times, spelling_condition, IsCondition, IsConjunct, IsNegated, IsOperand}
-use Rattle.circus_place.specs.Reading.{seen_comparison, relation_from, relation, differ_test, filled_condition, too_deep, no_deeper, alone_start, alone_by, parts_behind, join_chain, chain, grouped_with, denied_with, negation, further_and, further_or, conjunct, condition}
+use Rattle.circus_place.specs.Seen.Reading.{seen_comparison, relation_from, relation, differ_test, filled_condition, too_deep, no_deeper, alone_start, alone_by, parts_behind, join_chain, chain, grouped_with, denied_with, negation, further_and, further_or, conjunct, condition}
 use Rattle.circus_place.proofs.Parts.{each_listed, listed_each, Calms, IsCompared, IsRelated, IsDiffering, lawful_relation, lawful_differing}
 use Rattle.circus_place.proofs.Ways.{due_is, number_is, text_is, seen_is, Image, lawful_image, sound_read, lawful_read, branch_too_deep}
 

@@ -4,6 +4,14 @@ pub mod Chains
 pub mod Conditions
 pub mod Placings
 pub mod Within
+mod TwiceParts
+mod TwiceConditions
+mod TwicePlacings
+mod FillParts
+mod FillConditions
+mod FillPlacings
+mod OneFilling
+mod OneStop
 pub mod Whole
 pub mod Obeying
 pub mod ReadIs

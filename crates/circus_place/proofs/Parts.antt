@@ -28,7 +28,7 @@ use Rattle.circus_place.specs.declared.start.ValueStart.TheVariants as value
 use Rattle.circus_place.specs.Words.{is_placing_word, placing_words}
 use Rattle.circus_place.specs.Written.{differ}
 use Rattle.circus_place.specs.Grammar.{truth_word, spelling_constant, spelling_attribute, spelling_machine, spelling_operand, sign_of, spelling_condition, IsOwnName, IsConstant, IsAttribute, IsMachine, IsOperand}
-use Rattle.circus_place.specs.Reading.{is_own_name, own_name, own_names, value_start, constant_by, a_constant, operand_by, attribute, attributes, machine, machines, number_operand, number_or_attribute, an_operand, seen_comparison, compared_by, rest_of_relation, relation_from, relation, differ_test}
+use Rattle.circus_place.specs.Seen.Reading.{is_own_name, own_name, own_names, value_start, constant_by, a_constant, operand_by, attribute, attributes, machine, machines, number_operand, number_or_attribute, an_operand, seen_comparison, compared_by, rest_of_relation, relation_from, relation, differ_test}
 use Rattle.circus_place.proofs.Ways.{due_is, number_is, text_is, Image, lawful_image, lawful_nothing}
 
 -- Names.

@@ -18,7 +18,7 @@ use Rattle.circus_syntax.proofs.Lawful.{Lawful, lawful_at, lawful_weaker, lawful
 use Rattle.circus_place.specs.declared.text.MachineText.{MachineText}
 use Rattle.circus_place.specs.Written.{Written}
 use Rattle.circus_place.specs.Grammar.{spelling_machine, spelling_condition, spelling_present, spelling, IsOwnName, IsGrammatical}
-use Rattle.circus_place.specs.Reading.{seen_comparison, names_present, present_if_any, text_end, heading, member_count, placing_of_parts, placing}
+use Rattle.circus_place.specs.Seen.Reading.{seen_comparison, names_present, present_if_any, text_end, heading, member_count, placing_of_parts, placing}
 use Rattle.circus_place.proofs.Ways.{due_is}
 use Rattle.circus_place.proofs.Parts.{NoMachine, lawful_own_names, lawful_machines}
 use Rattle.circus_place.proofs.Conditions.{EndsOr, lawful_condition}
@@ -132,7 +132,7 @@ lawful_present_if_any n =
     (lawful_optional (is_lexeme present_word) n (λ ns ts rest g d. opens_due present_word (spelling_names ns ++ due (sign (codes ";")) ∷ []) ts rest d)
     (lawful_at (is_lexeme present_word) n (lawful_present n)))
 
-abbrev PlacingParts : Type 0
+abbrev pub PlacingParts : Type 0
 PlacingParts = Unit {0} × (List MachineText × (Numeral × (Written × (Unit {0} × (Option (List Named) × Unit {0})))))
 
 placing_spelled : (x : PlacingParts) → spelling (placing_of_parts x) ≡ spelling_heading x.0 ++ (each spelling_machine x.1.0

@@ -28,7 +28,7 @@ use Rattle.circus_place.specs.declared.place_fault.PlaceFault.{PlaceFault}
 use Rattle.circus_place.specs.declared.place_fault.PlaceFault.TheVariants.{Refused, NoMemory}
 use Rattle.circus_place.specs.Written.{PlacingTree}
 use Rattle.circus_place.specs.Grammar.{IsPlacing, IsWithin, most_levels}
-use Rattle.circus_place.specs.Reading.{placing}
+use Rattle.circus_place.specs.Seen.Reading.{placing}
 use Rattle.circus_place.specs.Stopping.{IsUnexpected, IsTooDeep}
 use Rattle.circus_place.specs.Rank.{rank_of}
 use Rattle.circus_place.specs.Faults.{placing_faults, read_faults}
@@ -50,8 +50,6 @@ least_of : (text : List ℕ) (found : List Token) (tree : PlacingTree) (s : Read
 least_of text found tree s f answer each is least given = record {
   tree = tree;
   stop = s.stop;
-  left = s.rest;
-  is_read = of_text (placed_tokens text found) tree s (length text) is;
   tree_of = tree_of (placed_tokens text found) s.rest tree s.stop (length text) (text_tokens text found 0 each) (of_text (placed_tokens text found) tree s (length text) is);
   fault = f;
   least = least_is rank_of (read_faults s.stop tree) f least;
@@ -87,7 +85,7 @@ not_too_deep : (ts left : List Placed) (tree : PlacingTree) → IsPlacing ts tre
 not_too_deep ts left tree is within d =
     d.none_within (tree, d.rest, subst (λ l. IsPlacing l tree) (d.whole ∙ ap (λ l. d.read ++ l) d.next_is ∙ sym (append_assoc d.read (d.next ∷ []) d.rest)) is, within)
 
-not_stopped : (c : StopCause) (ts left : List Placed) (tree : PlacingTree) → IsPlacing ts tree → IsWithin most_levels tree → IsStopOf c ts left → ⊥
+pub not_stopped : (c : StopCause) (ts left : List Placed) (tree : PlacingTree) → IsPlacing ts tree → IsWithin most_levels tree → IsStopOf c ts left → ⊥
 not_stopped Unexpected ts left tree is within stop = not_unexpected ts left tree is stop
 not_stopped TooDeep ts left tree is within stop = not_too_deep ts left tree is within stop
 

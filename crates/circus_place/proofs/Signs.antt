@@ -8,7 +8,7 @@ use Rattle.circus_syntax.specs.Reading.{expect_token}
 use Rattle.circus_place.specs.declared.condition.Comparison.{Comparison}
 use Rattle.circus_place.specs.declared.condition.Comparison.TheVariants as by
 use Rattle.circus_place.specs.Grammar.{sign_of}
-use Rattle.circus_place.specs.Reading.{comparison_of, seen_comparison}
+use Rattle.circus_place.specs.Seen.Reading.{comparison_of, seen_comparison}
 
 -- what holds of the one that is seen holds of it, and else of a later one
 one_or_later : (holds : Comparison → Bool) (d c : Comparison) (later : Option Comparison) (b : Bool) → holds d ≡ b → (later ≡ Some c → holds c ≡ true) → cond b (Some d) later ≡ Some c → holds c ≡ true

@@ -13,10 +13,11 @@ use Rattle.circus_syntax.proofs.Widens.{Wider, WiderBy}
 use Rattle.circus_syntax.proofs.Levels.{widens_of_levels}
 use Rattle.circus_place.specs.Written.{PlacingTree}
 use Rattle.circus_place.specs.Grammar.{spelling, IsGrammatical, IsWithin, most_levels, IsPlacing, Begins, BeginsWithin}
-use Rattle.circus_place.specs.Reading.{text_end, placing}
+use Rattle.circus_place.specs.Seen.Reading.{text_end, placing}
 use Rattle.circus_place.specs.Stopping.{IsUnexpected, IsTooDeep, IsFilledIn}
 use Rattle.circus_place.proofs.Placings.{lawful_placing}
 use Rattle.circus_place.proofs.Within.{placing_within}
+use Rattle.circus_place.proofs.FillPlacings.{placing_filled}
 
 some_levels : (ds : List Due) → (n : ℕ) × AreWithin n ds
 some_levels [] = (0, tt)
@@ -30,8 +31,8 @@ enough_for tree =
     let (n, g) = some_levels (spelling tree) in
     (n + most_levels + 1, omega arith, within_more n (n + most_levels + 1) (omega arith) (spelling tree) g)
 
-reads : (n : ℕ) (ts : List Placed) (tree : PlacingTree) (e : ℕ) → IsPlacing ts tree → IsWithin n tree → placing n (reader None ts e) ≡ (tree, reader None [] e)
-reads n ts tree e is within =
+pub placing_read : (n : ℕ) (ts : List Placed) (tree : PlacingTree) (e : ℕ) → IsPlacing ts tree → IsWithin n tree → placing n (reader None ts e) ≡ (tree, reader None [] e)
+placing_read n ts tree e is within =
     ap (λ l. placing n (reader None l e)) (sym (append-nil ts)) ∙ (lawful_placing n (suc n) (omega arith)).complete.reads tree ts [] e (is.grammatical, within) is.spelled refl
 
 pub placing_one : (ts : List Placed) (tree other : PlacingTree) → IsPlacing ts tree → IsPlacing ts other → tree ≡ other
@@ -39,7 +40,7 @@ placing_one ts tree other first_is second_is =
     let (n, above, within) = enough_for tree in
     let (m, higher, inside) = enough_for other in
     let same : (tree, reader None [] 0) ≡ (other, reader None [] 0) =
-    sym (reads (n + m) ts tree 0 first_is (within_more n (n + m) (omega arith) (spelling tree) within)) ∙ reads (n + m) ts other 0 second_is (within_more m (n + m) (omega arith) (spelling other) inside) in
+    sym (placing_read (n + m) ts tree 0 first_is (within_more n (n + m) (omega arith) (spelling tree) within)) ∙ placing_read (n + m) ts other 0 second_is (within_more m (n + m) (omega arith) (spelling other) inside) in
     ap (λ (x : PlacingTree × Reader). x.0) same
 
 -- where it ended no token is left
@@ -109,6 +110,7 @@ placing_filled_in ts left tree s e tokens is =
         placing = subst (IsPlacing (R.taken ++ R.more)) tree_is begun;
         within = subst (IsWithin most_levels) tree_is within;
         there = there;
+        filled = placing_filled most_levels ts R.taken left tree s e is (R.whole ∙ ap (λ l. R.taken ++ l) left_is);
       },
       subst (λ (l : List Placed). s.place ≡ place_in l e) left_is stands,
     )
@@ -152,14 +154,14 @@ placing_unexpected ts left tree s e tokens is flat = record {
     none_on t rest next (other, more, other_is) =
         let (n, above, within) = enough_for other in
         no_stop (other, reader None [] e) (R.tree, reader (Some s) (t ∷ more) e) s refl refl
-        (sym (reads n ((R.taken ++ t ∷ []) ++ more) other e other_is within)
+        (sym (placing_read n ((R.taken ++ t ∷ []) ++ more) other e other_is within)
         ∙ ap (λ l. placing n (reader None l e)) (append_assoc R.taken (t ∷ []) more) ∙ still n above (t ∷ more) (ap first (sym next)))
 
     none_whole : left ≡ [] → (other : PlacingTree) → IsPlacing R.taken other → ⊥
     none_whole none other other_is =
         let (n, above, within) = enough_for other in
         no_stop (other, reader None [] e) (R.tree, reader (Some s) [] e) s refl refl
-        (sym (reads n R.taken other e other_is within) ∙ ap (λ l. placing n (reader None l e)) (sym (append-nil R.taken)) ∙ still n above [] (ap first (sym none)))
+        (sym (placing_read n R.taken other e other_is within) ∙ ap (λ l. placing n (reader None l e)) (sym (append-nil R.taken)) ∙ still n above [] (ap first (sym none)))
 
 pub placing_too_deep : (ts left : List Placed) (tree : PlacingTree) (s : Stop) (e : ℕ) → AreTokens ts
     → placing most_levels (reader None ts e) ≡ (tree, reader (Some s) left e) → s.cause ≡ TooDeep → IsTooDeep ts left
@@ -203,5 +205,5 @@ placing_too_deep ts left tree s e tokens is deep = record {
     none_within (other, more, other_is, within) =
         let t = further.0 in
         no_stop (other, reader None [] e) (R.tree, reader (Some s) (t ∷ more) e) s refl refl
-        (sym (reads most_levels ((R.taken ++ t ∷ []) ++ more) other e other_is within)
+        (sym (placing_read most_levels ((R.taken ++ t ∷ []) ++ more) other e other_is within)
         ∙ ap (λ l. placing most_levels (reader None l e)) (append_assoc R.taken (t ∷ []) more) ∙ stopped ts left tree s e is (t ∷ more) (ap first (sym further.2)))

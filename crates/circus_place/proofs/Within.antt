@@ -18,7 +18,7 @@ use Rattle.circus_place.specs.declared.start.AloneStart.{AloneStart}
 use Rattle.circus_place.specs.declared.start.AloneStart.TheVariants as begins
 use Rattle.circus_place.specs.Written.{Written, or, and}
 use Rattle.circus_place.specs.Grammar.{sign_of, or_word, and_word, ors, ands, spelling_constant, spelling_attribute, spelling_machine, spelling_operand, spelling_condition, spelling_present, IsWithin}
-use Rattle.circus_place.specs.Reading.{relation_from, relation, differ_test, too_deep, no_deeper, alone_start, alone_by, parts_behind, chain, grouped_with, denied_with, negation, further_and, further_or, conjunct, condition, placing}
+use Rattle.circus_place.specs.Seen.Reading.{relation_from, relation, differ_test, too_deep, no_deeper, alone_start, alone_by, parts_behind, chain, grouped_with, denied_with, negation, further_and, further_or, conjunct, condition, placing}
 use Rattle.circus_place.proofs.Conditions.{spelling_part, spelling_parts, and_chain, or_chain, single_negated, single_conjunct}
 
 -- What opens no level.

@@ -3,7 +3,7 @@ pub mod Obeys
 pub mod Words
 pub mod Written
 pub mod Grammar
-pub mod Reading
+pub mod Filling
 pub mod Stopping
 pub mod Rank
 pub mod Faults

@@ -11,7 +11,7 @@ use Rattle.circus_syntax.specs.declared.stopping.StopCause.{StopCause}
 use Rattle.circus_syntax.specs.declared.stopping.StopCause.TheVariants.{Unexpected, TooDeep}
 use Rattle.circus_syntax.specs.Placed.{Placed}
 use Rattle.circus_syntax.specs.Read.{placed_from}
-use Rattle.circus_syntax.specs.Reader.{open_at, place_in}
+use Rattle.circus_syntax.specs.Reader.{place_in}
 use Rattle.circus_place.specs.declared.placing.Placing.{Placing}
 use Rattle.circus_fault.specs.declared.fault.Fault.{Fault}
 use Rattle.circus_fault.specs.Least.{IsLeast}
@@ -21,7 +21,6 @@ use Rattle.circus_place.specs.declared.place_fault.PlaceFault.TheVariants.{Refus
 use Rattle.circus_place.specs.declared.place_fault.PlaceCause.TheVariants.{BadCharacter, OpenString, LongNumber, TooLarge}
 use Rattle.circus_place.specs.Written.{PlacingTree}
 use Rattle.circus_place.specs.Grammar.{IsPlacing, IsWithin, most_levels}
-use Rattle.circus_place.specs.Reading.{placing}
 use Rattle.circus_place.specs.Stopping.{IsUnexpected, IsTooDeep, IsFilledIn}
 use Rattle.circus_place.specs.Rank.{rank_of}
 use Rattle.circus_place.specs.Faults.{placing_faults, read_faults}
@@ -56,8 +55,6 @@ IsTreeOf ts end (Some s) tree = (left : List Placed) × IsFilledIn ts left s.pla
 pub record IsLeastOf (text : List ℕ) (found : List Token) (answer : PlaceFault) : Type 0 where
   pub tree : PlacingTree
   pub stop : Option Stop
-  pub left : List Placed
-  pub is_read : placing most_levels (open_at (placed_tokens text found) (length text)) ≡ (tree, record { rest = left; end = length text; stop = stop })
   pub tree_of : IsTreeOf (placed_tokens text found) (length text) stop tree
   pub fault : Fault PlaceCause
   pub least : IsLeast rank_of fault (read_faults stop tree)

@@ -1,4 +1,5 @@
--- How code is seen: tables of attributes, relations of machines, tests and the search.
+-- How code is seen: the productions as they read, tables of attributes, relations of machines, tests and the search.
+pub mod Reading
 pub mod Cut
 pub mod Table
 pub mod Test

@@ -2,7 +2,7 @@
 ghost use Rattle.std.specs.Prelude.{◌≡◌, IfOk};
 ghost use Rattle.circus_place.specs.Written.{written_of};
 ghost use Rattle.circus_place.specs.Written as written;
-ghost use Rattle.circus_place.specs.Reading.{relation, differ_test, too_deep, negation, group_behind_not, group_or_relation, conjunct, condition, with_further_and, with_further_or};
+ghost use Rattle.circus_place.specs.Seen.Reading.{relation, differ_test, too_deep, negation, group_behind_not, group_or_relation, conjunct, condition, with_further_and, with_further_or};
 
 use crate::start::{AloneStart, alone_start};
 use crate::value_reading::{operand, own_name, rest_of_relation};
@@ -10,7 +10,7 @@ use crate::{ConditionText, ConstantText, OperandText};
 use circus_syntax::{Numeral, Reader, StopCause};
 use circus_value::NoMemory;
 
-#[tactic(auto, unfolding(crate::specs::Reading::relation))]
+#[tactic(auto, unfolding(crate::specs::Seen::Reading::relation))]
 fn relation(reader: &mut Reader) -> Result<ConditionText, NoMemory>
     ensures { IfOk result (λ read. relation reader.old ≡ (written_of read, reader.new)) }
 {
@@ -21,7 +21,7 @@ fn relation(reader: &mut Reader) -> Result<ConditionText, NoMemory>
     }
 }
 
-#[tactic(auto, unfolding(crate::specs::Reading::differ_test))]
+#[tactic(auto, unfolding(crate::specs::Seen::Reading::differ_test))]
 fn differ_test(reader: &mut Reader) -> Result<ConditionText, NoMemory>
     ensures { IfOk result (λ read. differ_test reader.old ≡ (written_of read, reader.new)) }
 {
@@ -31,7 +31,7 @@ fn differ_test(reader: &mut Reader) -> Result<ConditionText, NoMemory>
 }
 
 // Stops where a level is too many. What is missing is filled in.
-#[tactic(auto, unfolding(crate::specs::Reading::too_deep))]
+#[tactic(auto, unfolding(crate::specs::Seen::Reading::too_deep))]
 fn too_deep(reader: &mut Reader) -> ConditionText
     ensures { too_deep reader.old ≡ (written_of result, reader.new) }
 {

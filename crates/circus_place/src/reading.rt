@@ -2,7 +2,7 @@
 ghost use Rattle.std.specs.Prelude.{◌≡◌, IfOk};
 ghost use Rattle.circus_place.specs.Written.{placing_of};
 ghost use Rattle.circus_place.specs.Grammar.{most_levels};
-ghost use Rattle.circus_place.specs.Reading.{attribute, attributes, machine, machines, names_present, present_if_any, text_end, heading, member_count, placing};
+ghost use Rattle.circus_place.specs.Seen.Reading.{attribute, attributes, machine, machines, names_present, present_if_any, text_end, heading, member_count, placing};
 
 use crate::condition_reading::condition;
 use crate::value_reading::{constant, names, next_name, own_name};
@@ -10,7 +10,7 @@ use crate::{AttributeText, AttributeTexts, MachineText, MachineTexts, PlacingTex
 use circus_syntax::{Nameds, Numeral, Reader, StopCause};
 use circus_value::NoMemory;
 
-#[tactic(auto, unfolding(crate::specs::Reading::attribute))]
+#[tactic(auto, unfolding(crate::specs::Seen::Reading::attribute))]
 fn attribute(reader: &mut Reader) -> Result<AttributeText, NoMemory>
     ensures { IfOk result (λ read. attribute reader.old ≡ (read, reader.new)) }
 {
@@ -20,7 +20,7 @@ fn attribute(reader: &mut Reader) -> Result<AttributeText, NoMemory>
     Ok(AttributeText { name, constant })
 }
 
-#[tactic(auto, unfolding(crate::specs::Reading::attributes))]
+#[tactic(auto, unfolding(crate::specs::Seen::Reading::attributes))]
 fn attributes(reader: &mut Reader) -> Result<AttributeTexts, NoMemory>
     ensures { IfOk result (λ read. attributes reader.old ≡ (read, reader.new)) }
 {
@@ -36,7 +36,7 @@ fn attributes(reader: &mut Reader) -> Result<AttributeTexts, NoMemory>
     Ok(attributes)
 }
 
-#[tactic(auto, unfolding(crate::specs::Reading::machine))]
+#[tactic(auto, unfolding(crate::specs::Seen::Reading::machine))]
 fn machine(reader: &mut Reader) -> Result<MachineText, NoMemory>
     ensures { IfOk result (λ read. machine reader.old ≡ (read, reader.new)) }
 {
@@ -49,7 +49,7 @@ fn machine(reader: &mut Reader) -> Result<MachineText, NoMemory>
     Ok(MachineText { name, attributes })
 }
 
-#[tactic(auto, unfolding(crate::specs::Reading::machines))]
+#[tactic(auto, unfolding(crate::specs::Seen::Reading::machines))]
 fn machines(reader: &mut Reader) -> Result<MachineTexts, NoMemory>
     ensures { IfOk result (λ read. machines reader.old ≡ (read, reader.new)) }
 {
@@ -60,7 +60,7 @@ fn machines(reader: &mut Reader) -> Result<MachineTexts, NoMemory>
     Ok(machines)
 }
 
-#[tactic(auto, unfolding(crate::specs::Reading::present_if_any, crate::specs::Reading::names_present))]
+#[tactic(auto, unfolding(crate::specs::Seen::Reading::present_if_any, crate::specs::Seen::Reading::names_present))]
 fn names_present(reader: &mut Reader) -> Result<Option<Nameds>, NoMemory>
     ensures { IfOk result (λ read. present_if_any reader.old ≡ (read, reader.new)) }
 {
@@ -74,7 +74,7 @@ fn names_present(reader: &mut Reader) -> Result<Option<Nameds>, NoMemory>
 }
 
 // Stops where there is a token more.
-#[tactic(auto, unfolding(crate::specs::Reading::text_end))]
+#[tactic(auto, unfolding(crate::specs::Seen::Reading::text_end))]
 fn end(reader: &mut Reader)
     ensures { text_end reader.old ≡ (tt, reader.new) }
 {
@@ -83,7 +83,7 @@ fn end(reader: &mut Reader)
     }
 }
 
-#[tactic(auto, unfolding(crate::specs::Reading::heading))]
+#[tactic(auto, unfolding(crate::specs::Seen::Reading::heading))]
 fn heading(reader: &mut Reader)
     ensures { heading reader.old ≡ (tt, reader.new) }
 {
@@ -92,7 +92,7 @@ fn heading(reader: &mut Reader)
     reader.sign(b";");
 }
 
-#[tactic(auto, unfolding(crate::specs::Reading::member_count))]
+#[tactic(auto, unfolding(crate::specs::Seen::Reading::member_count))]
 fn member_count(reader: &mut Reader) -> Numeral
     ensures { member_count reader.old ≡ (result, reader.new) }
 {
@@ -107,7 +107,7 @@ pub const MOST_LEVELS: u8 = 64;
 
 /// Reads a placing to the end of the text, or up to the first token with which none goes on, or that opens a level
 /// too many. From there on what is missing is filled in.
-#[tactic(auto, unfolding(crate::specs::Reading::placing))]
+#[tactic(auto, unfolding(crate::specs::Seen::Reading::placing))]
 pub fn placing(reader: &mut Reader) -> Result<PlacingText, NoMemory>
     ensures { IfOk result (λ read. placing most_levels reader.old ≡ (placing_of read, reader.new)) }
 {

@@ -1,7 +1,7 @@
 // What the next token begins.
 ghost use Rattle.std.specs.Prelude.{◌≡◌};
 ghost use Rattle.circus_syntax.specs.Reader.{next};
-ghost use Rattle.circus_place.specs.Reading.{value_start, alone_start};
+ghost use Rattle.circus_place.specs.Seen.Reading.{value_start, alone_start};
 
 use circus_syntax::Reader;
 
@@ -26,7 +26,7 @@ pub enum AloneStart {
 }
 
 /// What the next token begins, of the forms of a value.
-#[tactic(auto, unfolding(crate::specs::Reading::value_start))]
+#[tactic(auto, unfolding(crate::specs::Seen::Reading::value_start))]
 pub fn value_start(reader: &Reader) -> ValueStart
     ensures { result ≡ value_start (next reader.now) }
 {
@@ -42,7 +42,7 @@ pub fn value_start(reader: &Reader) -> ValueStart
 }
 
 /// What the next token begins, of the forms of a condition that stands by itself.
-#[tactic(auto, unfolding(crate::specs::Reading::alone_start))]
+#[tactic(auto, unfolding(crate::specs::Seen::Reading::alone_start))]
 pub fn alone_start(reader: &Reader) -> AloneStart
     ensures { result ≡ alone_start (next reader.now) }
 {

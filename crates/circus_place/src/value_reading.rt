@@ -2,7 +2,7 @@
 ghost use Rattle.std.specs.Prelude.{◌≡◌, true, false, IfOk, MatchOption};
 ghost use Rattle.circus_syntax.specs.Reader.{next, sees};
 ghost use Rattle.circus_syntax.specs.Placed.{Placed};
-ghost use Rattle.circus_place.specs.Reading.{is_own_name, own_name, own_names, constant_by, a_constant, number_or_attribute, an_operand, seen_comparison, rest_of_relation};
+ghost use Rattle.circus_place.specs.Seen.Reading.{is_own_name, own_name, own_names, constant_by, a_constant, number_or_attribute, an_operand, seen_comparison, rest_of_relation};
 
 use crate::start::{ValueStart, value_start};
 use crate::words::is_placing_word;
@@ -24,7 +24,7 @@ pub fn next_name<'a>(reader: &Reader<'a>) -> Option<&'a [u8]>
 }
 
 /// Reads a name, or stops and answers `x`.
-#[tactic(auto, unfolding(crate::specs::Reading::own_name))]
+#[tactic(auto, unfolding(crate::specs::Seen::Reading::own_name))]
 pub fn own_name(reader: &mut Reader) -> Result<Named, NoMemory>
     ensures { IfOk result (λ read. own_name reader.old ≡ (read, reader.new)) }
 {
@@ -44,7 +44,7 @@ pub fn own_name(reader: &mut Reader) -> Result<Named, NoMemory>
 }
 
 /// Reads one name or more with commas between them, or stops.
-#[tactic(auto, unfolding(crate::specs::Reading::own_names))]
+#[tactic(auto, unfolding(crate::specs::Seen::Reading::own_names))]
 pub fn names(reader: &mut Reader) -> Result<Nameds, NoMemory>
     ensures { IfOk result (λ read. own_names reader.old ≡ (read, reader.new)) }
 {
@@ -78,7 +78,7 @@ fn constant_by(reader: &mut Reader, start: ValueStart) -> Result<ConstantText, N
 }
 
 /// Reads a constant, or stops.
-#[tactic(auto, unfolding(crate::specs::Reading::a_constant))]
+#[tactic(auto, unfolding(crate::specs::Seen::Reading::a_constant))]
 pub fn constant(reader: &mut Reader) -> Result<ConstantText, NoMemory>
     ensures { IfOk result (λ read. a_constant reader.old ≡ (read, reader.new)) }
 {
@@ -86,7 +86,7 @@ pub fn constant(reader: &mut Reader) -> Result<ConstantText, NoMemory>
     constant_by(reader, start)
 }
 
-#[tactic(auto, unfolding(crate::specs::Reading::number_or_attribute))]
+#[tactic(auto, unfolding(crate::specs::Seen::Reading::number_or_attribute))]
 fn number_or_attribute(reader: &mut Reader) -> Result<OperandText, NoMemory>
     ensures { IfOk result (λ read. number_or_attribute reader.old ≡ (read, reader.new)) }
 {
@@ -100,7 +100,7 @@ fn number_or_attribute(reader: &mut Reader) -> Result<OperandText, NoMemory>
 }
 
 /// Reads an attribute of a member or a constant, or stops.
-#[tactic(auto, unfolding(crate::specs::Reading::an_operand))]
+#[tactic(auto, unfolding(crate::specs::Seen::Reading::an_operand))]
 pub fn operand(reader: &mut Reader) -> Result<OperandText, NoMemory>
     ensures { IfOk result (λ read. an_operand reader.old ≡ (read, reader.new)) }
 {
@@ -111,7 +111,7 @@ pub fn operand(reader: &mut Reader) -> Result<OperandText, NoMemory>
 }
 
 // Which comparison the next token is.
-#[tactic(auto, unfolding(crate::specs::Reading::seen_comparison))]
+#[tactic(auto, unfolding(crate::specs::Seen::Reading::seen_comparison))]
 fn comparison(reader: &Reader) -> Option<Comparison>
     ensures { result ≡ seen_comparison (next reader.now) }
 {
@@ -133,7 +133,7 @@ fn comparison(reader: &Reader) -> Option<Comparison>
 }
 
 /// A comparison and its right side, if there is one.
-#[tactic(auto, unfolding(crate::specs::Reading::rest_of_relation))]
+#[tactic(auto, unfolding(crate::specs::Seen::Reading::rest_of_relation))]
 pub fn rest_of_relation(reader: &mut Reader) -> Result<Option<(Comparison, OperandText)>, NoMemory>
     ensures { IfOk result (λ read. rest_of_relation reader.old ≡ (read, reader.new)) }
 {

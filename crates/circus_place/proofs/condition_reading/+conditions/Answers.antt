@@ -2,7 +2,7 @@ use Rattle.std.proofs.Common.{◌-◌, sym, ◌∙◌, ap}
 use Rattle.circus_syntax.proofs.ByWord.{if_ok, suc_before}
 use Rattle.circus_place.specs.declared.start.AloneStart.TheVariants as begins
 use Rattle.circus_place.specs.Written.{written_of}
-use Rattle.circus_place.specs.Reading.{with_further_and, with_further_or}
+use Rattle.circus_place.specs.Seen.Reading.{with_further_and, with_further_or}
 use Rattle.circus_place.proofs.Chains.{conjunct_one, conjunct_more, further_and_none, further_and_deep, further_and_more, condition_one, condition_more, further_or_none, further_or_deep, further_or_more, negated_is}
 use Rattle.circus_place.proofs.condition_reading.+conditions.Goals as goal
 

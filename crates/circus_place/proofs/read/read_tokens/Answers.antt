@@ -2,7 +2,7 @@ use Rattle.std.proofs.Common.{◌≡◌, sym, ◌∙◌, ap, length}
 use Rattle.circus_syntax.specs.Reader.{open_at}
 use Rattle.circus_place.specs.Written.{placing_of}
 use Rattle.circus_place.specs.Grammar.{most_levels}
-use Rattle.circus_place.specs.Reading.{placing}
+use Rattle.circus_place.specs.Seen.Reading.{placing}
 use Rattle.circus_place.specs.ReadAs.{placed_tokens}
 use Rattle.circus_place.proofs.ReadIs.{ok_read, ok_obeys, err_read}
 use Rattle.circus_place.proofs.read.read_tokens.Goals as goal

@@ -2,7 +2,7 @@ use Rattle.std.proofs.Common.{◌≡◌, length}
 use Rattle.circus_syntax.specs.Reading.{behind}
 use Rattle.circus_syntax.proofs.Tokens.{comma_sign, is_comma}
 use Rattle.circus_syntax.proofs.Loops.{goes_on}
-use Rattle.circus_place.specs.Reading.{attribute, attributes}
+use Rattle.circus_place.specs.Seen.Reading.{attribute, attributes}
 use Rattle.circus_place.proofs.reading.attributes.Given as goal
 
 -- the attributes so far and those that follow are the attributes

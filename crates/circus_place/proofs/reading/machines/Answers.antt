@@ -2,7 +2,7 @@ use Rattle.std.proofs.Common.{sym, ◌∙◌, ap}
 use Rattle.std.specs.Prelude.{codes}
 use Rattle.circus_syntax.specs.Placed.{is_lexeme, word}
 use Rattle.circus_syntax.proofs.Loops.{goes_on, goes_step, shorter}
-use Rattle.circus_place.specs.Reading.{machine}
+use Rattle.circus_place.specs.Seen.Reading.{machine}
 use Rattle.circus_place.proofs.Parts.{shrinks_machine}
 use Rattle.circus_place.proofs.reading.machines.Goals as goal
 

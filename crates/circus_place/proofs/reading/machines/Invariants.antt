@@ -2,7 +2,7 @@ use Rattle.std.proofs.Common.{◌≡◌, length}
 use Rattle.std.specs.Prelude.{codes}
 use Rattle.circus_syntax.specs.Placed.{is_lexeme, word}
 use Rattle.circus_syntax.proofs.Loops.{goes_on}
-use Rattle.circus_place.specs.Reading.{machine, machines}
+use Rattle.circus_place.specs.Seen.Reading.{machine, machines}
 use Rattle.circus_place.proofs.reading.machines.Given as goal
 
 -- the machines so far and those that follow are the machines

@@ -2,7 +2,7 @@ use Rattle.std.proofs.Common.{◌≡◌, length}
 use Rattle.circus_syntax.specs.Reading.{behind}
 use Rattle.circus_syntax.proofs.Tokens.{comma_sign, is_comma}
 use Rattle.circus_syntax.proofs.Loops.{goes_on}
-use Rattle.circus_place.specs.Reading.{own_name, own_names}
+use Rattle.circus_place.specs.Seen.Reading.{own_name, own_names}
 use Rattle.circus_place.proofs.value_reading.names.Given as goal
 
 -- the names so far and those that follow are the names

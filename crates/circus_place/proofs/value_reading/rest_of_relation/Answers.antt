@@ -2,7 +2,7 @@ use Rattle.std.proofs.Common.{◌≡◌, sym, ◌∙◌, ap}
 use Rattle.std.specs.Prelude.{Some}
 use Rattle.circus_syntax.specs.Reading.{expect_token}
 use Rattle.circus_place.specs.Grammar.{sign_of}
-use Rattle.circus_place.specs.Reading.{an_operand, compared_by, rest_of_relation}
+use Rattle.circus_place.specs.Seen.Reading.{an_operand, compared_by, rest_of_relation}
 use Rattle.circus_place.proofs.Signs.{sign_is}
 use Rattle.circus_place.proofs.value_reading.rest_of_relation.Goals as goal
 
