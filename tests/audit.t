@@ -204,7 +204,7 @@ The lie of `s2` was not taken.
   yes
   $ changed() { sed "$1" differs >r; circus audit watched r; }
 
-It was told once. It names a run and an ask that stand below, and replies that its procedure may give.
+A `differ` line stands there once. It names a run and an ask that stand below, and replies that its procedure may give.
 
   $ changed 9d; changed 9p; changed '9s/6/7/'; changed '9s/s1/s2/; 9s/s2 clock 1,0 returned .6/s1 clock 1,0 returned [6/'
   not a run of m1
@@ -242,7 +242,7 @@ What came is another thing; what followed is.
   not a run of m1
   [13]
 
-What is foreign stands behind what was given and told, and counts for nothing.
+What is foreign stands behind what was given and what differed, and counts for nothing.
 
   $ changed '4a foreign 9501 00'; changed '9a foreign 65535 '
   circus audit 1
@@ -326,7 +326,8 @@ another one, or there are not so many runs.
   not a run of s2
   [13]
 
-A false state that is given doesn't show where each run sets another one. It is told where a later run is wrong, before that one.
+A false state that is given doesn't show where each run sets another one. Where a later
+run is wrong, the answer is the place from which the spare began, and not that run.
 
   $ sed 's/PORT 90/PORT 95/g' "$TESTDIR/programs/keeper.circus" >keeper
   $ set_to() {

@@ -117,7 +117,7 @@ until it is declared down.
   end 0 step 4 clock 1,0 returned [] state [5]
   now idle state [5]
 
-The Ringmaster is told, and answers with a view without it.
+The Ringmaster hears of it, and answers with a view without it.
 
   $ replayed all_of_2.circus 'crash s2\ndeliver 0\ndeliver 3\ndown s2 m1\ndeliver 5\ndeliver 7\n'
   circus report 1
@@ -148,7 +148,7 @@ The Ringmaster is told, and answers with a view without it.
 
 At least two of four, and at least four, of whom three are left.
 
-Who is down is told to the Ringmaster at each declaration, until the known view has it no more.
+At each declaration the Ringmaster hears who is down, until the known view doesn't have that node any more.
 
   $ replayed all_of_2.circus 'crash s2\ndeliver 0\ndeliver 3\ndown s2 m1\ndown s2 m1\ndeliver 5\ndeliver 8\ndown s2 m1\ndown s2 ring\n'
   circus report 1

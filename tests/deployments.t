@@ -1,4 +1,4 @@
-The rules of deployments. In each case the `@` is a newline in front of what is told. HERE is on line 5,
+The rules of deployments. In each case the `@` is a newline in front of what is refused. HERE is on line 5,
 behind the module A and the root R; a file that passes is run.
 
   $ . "$TESTDIR/cases.sh"

@@ -1,4 +1,4 @@
-Interfaces: what is refused, and where. In each case the `@` is a newline in front of what is told. HERE is on
+Interfaces: what is refused, and where. In each case the `@` is a newline in front of what is refused. HERE is on
 line 3 of the frame, which declares an interface that no module implements.
 
   $ . "$TESTDIR/cases.sh"

@@ -180,7 +180,7 @@ The longest argument.
   ask 0 step 0 to Store index 0 procedure 1 arguments [{{7, 7, 7, 7, 7, 7, 7, 7, 7, 7, 7, 7,
   now waiting ask 0 state []
 
-Each second segment of it is lost. A tick sends the first of these again, whose acknowledgement tells of the next one.
+Each second segment of it is lost. A tick sends the first of these again, and its acknowledgement says up to where nothing is missing then.
 
   $ { seq 0 2 1024 | sed 's/^/deliver /'; echo tick m1; echo deliver 1537; echo deliver 1538; echo tick m1; echo deliver 1539; } >s
   $ circus replay block_8.circus s | sed -n '/^datagram 102[5-7] /p; /^datagram 153[6-9] /p; /^datagram 1540 /p' | cut -c 1-80

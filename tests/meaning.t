@@ -1,4 +1,4 @@
-What the statements of a root come to, each time in a program whose modules do nothing else: the clock, the
+What the statements of a root do, each time in a program whose modules do nothing else: the clock, the
 outcome and the state of its last run. The frames have the variables and what they are at first.
 
   $ . "$TESTDIR/cases.sh"

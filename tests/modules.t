@@ -1,4 +1,4 @@
-Modules that break a rule. In each case the `@` is a newline in front of what is told, so the line is the one
+Modules that break a rule. In each case the `@` is a newline in front of what is refused, so the line is the one
 behind that of the word HERE in the frame.
 
   $ . "$TESTDIR/cases.sh"
@@ -598,7 +598,7 @@ Behind 32 modules, which are as many as there may be. HERE is on line 35.
   program line 36: too many
   [2]
 
-These modules break no rule. Their file has no troupes, so the first one that lacks is told at its end.
+These modules break no rule. Their file has no troupes, so the first module without one is named at its end.
 
   $ cat >p <<END_OF_PROGRAM
   > CIRCUS 1;

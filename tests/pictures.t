@@ -94,7 +94,7 @@ A message that is sent again, and a call that is probed, whose return comes late
              |     |     |    5 s1 to m1 reply again
              |     |     |    6 m1 to s1 ack return 0
 
-Messages of two segments: the second one is told by its number, and by that of its call.
+Messages of two segments: the second one is named by its number, and by that of its call.
 
   $ sed 's/n: CARDINAL/n: SEQUENCE 40000 OF CARDINAL/; s/LENGTH(q)]/q]/; s/32768/600/' room_32768_2.circus >echo.circus
   $ echo -n tick m1,deliver 2,deliver 3,tick m1,deliver 4,deliver 5,deliver 6,deliver 7 | picture echo.circus | cut -c -68
@@ -309,7 +309,7 @@ Many nodes.
              |     |     |     |     |     |     |     x     |     |     |    15 t1 to l2 call Ledger.Move Day.0.0
              |     |     |     |     |     |     |     x     |     |     |    16 t1 to l3 call Ledger.Move Day.0.0
 
-What is refused is told by one line, and nothing is drawn.
+Of what is refused one line is written, and nothing is drawn.
 
   $ circus picture first.circus
   circus: bad command line

@@ -1,4 +1,4 @@
-Schedules that are refused. Where the text is none that is told alone; where a line may not be stepped, the
+Schedules that are refused. Where the text is no schedule, one line is written alone; where a line may not be stepped, the
 first line of the report and the datagrams of the lines in front are written before.
 
   $ . "$TESTDIR/cases.sh"

@@ -1,5 +1,5 @@
 Where the text of a program goes on as none does. In each case the `@` is a newline in front of the word that
-is not expected. A text that is read may break a rule of modules, which is then told in place of `syntax`.
+is not expected. A text that is read may break a rule of modules, which is then named in place of `syntax`.
 
   $ . "$TESTDIR/cases.sh"
 
@@ -339,7 +339,7 @@ HERE is on line 4, in a root.
 
 # Expressions
 
-HERE is on line 4, behind an assignment to x, which nothing has: where the expression is read that is told, on
+HERE is on line 4, behind an assignment to x, which nothing has: where the expression is read that is refused, on
 line 3.
 
   $ frame assigned

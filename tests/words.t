@@ -115,7 +115,7 @@ Words of a form, whose file is not there: the first file that is named is fetche
   shelf fault: absent
   [4]
 
-A schedule, or a record, that is not there is told once the program is read.
+A schedule, or a record, that is not there is reported once the program is read.
 
   $ cp "$TESTDIR/../examples/first.circus" p; circus replay p absent
   shelf fault: absent
