@@ -1,8 +1,8 @@
 -- Headers of calls that may be made.
-use Rattle.std.proofs.Common.{◌≡◌, ℕ, ◌+◌, ◌<◌, ◌≤◌, Bool, true, false, not, ◌&&◌, nat_lt, if◌then◌else◌, sym, subst, All, filter, length, List, [], ◌∷◌, arith}
+use Rattle.std.proofs.Common.{◌≡◌, ℕ, ◌+◌, ◌<◌, ◌≤◌, Bool, true, false, not, ◌&&◌, nat_lt, if◌then◌else◌, sym, subst, ap, ◌∙◌, All, filter, length, List, [], ◌∷◌, arith}
 use Rattle.std.proofs.lemmas.List.Elements.{All-map, All-nil, All-cons, All-append}
 use Rattle.circus_value.specs.Among.{is_among}
-use Rattle.circus_header.specs.CallFields.{IsAsk, IsModule, IsIncarnation}
+use Rattle.circus_header.specs.CallFields.{naming, IsAsk, IsModule, IsIncarnation}
 use Rattle.circus_header.specs.declared.call.CallHeader.{CallHeader}
 use Rattle.circus_collate.specs.declared.view.View.{View}
 use Rattle.circus_collate.specs.declared.view.Entry.{Entry}
@@ -14,10 +14,10 @@ use Rattle.circus_fanout.specs.declared.asked.Asked.{Asked}
 use Rattle.circus_fanout.specs.declared.send.Send.{Send}
 use Rattle.circus_fanout.specs.declared.send.Next.{Next}
 use Rattle.circus_fanout.specs.declared.send.Next.TheVariants as N
-use Rattle.circus_member_rules.specs.Rules.{header_now, ringmaster}
+use Rattle.circus_member_rules.specs.Rules.{incarnation_of, header_now, ringmaster}
 use Rattle.circus_member_rules.specs.Callable.{IsAsked, MayCall, CallsAView}
 
-is_ask : (h : CallHeader) (c s : ℕ) → IsAsked h → IsIncarnation c → IsIncarnation s → IsAsk (record h { client_incarnation = c; server_incarnation = s })
+is_ask : (h : CallHeader) (c s : ℕ) → IsAsked h → IsIncarnation c → IsIncarnation s → IsAsk (naming h c s)
 is_ask h c s a client server = record {
   root = a.asks.root;
   path_some = a.asks.path_some;
@@ -32,8 +32,14 @@ is_ask h c s a client server = record {
   has_client = a.asks.has_client;
 }
 
-pub may_ask : (k : Knowing) (a : Asking) (send : Send) (h : CallHeader) → h ≡ header_now k a send → MayCall k a → IsIncarnation send.incarnation → IsAsk h
-may_ask k a send h is may view = subst IsAsk (sym is) (is_ask a.header _ _ may.asked may.client view)
+-- a header that names the views known now is that of a call that is made now
+pub named_now : (k : Knowing) (a : Asking) (send : Send) (h : CallHeader) (own : ℕ) → h ≡ a.header → own ≡ incarnation_of k h.client → naming h own send.incarnation ≡ header_now k a send
+named_now k a send h own is known =
+    ap (λ n. naming h n send.incarnation) known ∙ ap (λ (x : CallHeader). naming x (incarnation_of k x.client) send.incarnation) is
+
+pub may_ask : (k : Knowing) (a : Asking) (send : Send) (h : CallHeader) (own : ℕ) → h ≡ a.header → own ≡ incarnation_of k h.client → MayCall k a → IsIncarnation send.incarnation
+    → IsAsk (naming h own send.incarnation)
+may_ask k a send h own is known may view = subst IsAsk (sym (named_now k a send h own is known)) (is_ask a.header _ _ may.asked may.client view)
 
 -- the calls that a view makes due name it
 pub by_the_view : (view : View) (down : List ℕ) (asked : List Asked) → IsIncarnation view.incarnation → All (λ (s : Send). IsIncarnation s.incarnation) (calls_for_a_view view down asked)

@@ -13,7 +13,8 @@ use Rattle.circus_member_rules.specs.declared.closing.Concern.{Concern}
 use Rattle.circus_member_rules.specs.declared.closing.Concern.TheVariants as concern
 use Rattle.circus_member_rules.specs.declared.occurrence.AskName.{AskName}
 use Rattle.circus_member_rules.specs.OpenAsks.{is_name, is_waiting, asking_of}
-use Rattle.circus_member_rules.specs.Rules.{is_settled, stays_open, close_asks, close_ask, close_one, close_concerned, close_by}
+use Rattle.circus_member_rules.specs.Rules.{is_settled, stays_open, close_asks}
+use Rattle.circus_member_rules.specs.Seen.Closing.{close_ask, close_one, close_concerned, close_by}
 use Rattle.circus_member_rules.specs.Seen.Sound.{AreNamed}
 use Rattle.circus_member_rules.proofs.Named.{names_decide, names_are, named-filtered}
 

@@ -30,8 +30,9 @@ use Rattle.circus_member_rules.specs.declared.occurrence.Occurrence.{Occurrence}
 use Rattle.circus_member_rules.specs.declared.occurrence.Occurrence.TheVariants as comes
 use Rattle.circus_member_rules.specs.OpenAsks.{is_name, is_waiting, with_asking}
 use Rattle.circus_member_rules.specs.MemberState.{MemberState, Doing, add_effects}
-use Rattle.circus_member_rules.specs.Rules.{is_settled, stays_open, wanted_by_call, after_stale, active_call, before_answers, snapshots_owed, concern_of}
-use Rattle.circus_member_rules.specs.Step.{name_of_last, asking_begun, waits, is_idle, start_by_call, next_start, value_of_open, given_states, opened_by_view, opened_ask, ended_run, after_turns, with_record, answered_by, answered_open, enter_run_of, start_runs, execute, handle, keep_ask_open, closed_by}
+use Rattle.circus_member_rules.specs.Rules.{is_settled, stays_open, wanted_by_call, after_stale, active_call, before_answers, snapshots_owed}
+use Rattle.circus_member_rules.specs.Step.{name_of_last, asking_begun, waits, is_idle, start_by_call, next_start, value_of_open, given_states, opened_by_view, opened_ask, ended_run, after_turns, with_record, answered_by, answered_open, enter_run_of, start_runs, execute, handle, keep_ask_open}
+use Rattle.circus_member_rules.specs.Seen.Closing.{concern_of, closed_by}
 use Rattle.circus_member_rules.specs.Seen.Sound.{AreNamed}
 use Rattle.circus_member_rules.proofs.Named.{All-opened_at, All-changed_at}
 use Rattle.circus_member_rules.proofs.Homes.{called_views}

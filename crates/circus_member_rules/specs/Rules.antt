@@ -2,7 +2,6 @@
 use Rattle.std.specs.Prelude.{ℕ, ◌+◌, ◌-◌, Bool, true, false, not, ◌&&◌, ◌||◌, nat_eq, min, if◌then◌else◌, List, [], ◌∷◌, length, map, filter, slice_get, slice_index, slice_set, Option, None, Some, option_map, option_and_then}
 use Rattle.std.specs.List.{flat_map}
 use Rattle.std.specs.Option.{option_map_or}
-use Rattle.std.specs.Map.{remove_entry}
 use Rattle.circus_value.specs.Among.{is_among}
 use Rattle.circus_value.specs.declared.caller.Caller.{Caller}
 use Rattle.circus_header.specs.declared.call.CallHeader.{CallHeader}
@@ -34,16 +33,11 @@ use Rattle.circus_fanout.specs.declared.send.Watched.{Watched}
 use Rattle.circus_fanout.specs.declared.send.Watched.TheVariants.{Quiet, Differs}
 use Rattle.circus_performing.specs.Performing.{last_count}
 use Rattle.circus_member_rules.specs.declared.place.Place.{Place}
-use Rattle.circus_member_rules.specs.declared.closing.Concern.{Concern}
-use Rattle.circus_member_rules.specs.declared.closing.Concern.TheVariants as concern
 use Rattle.circus_member_rules.specs.declared.occurrence.AskName.{AskName}
 use Rattle.circus_member_rules.specs.declared.occurrence.Difference.{Difference}
 use Rattle.circus_member_rules.specs.declared.occurrence.Purpose.TheVariants as for
-use Rattle.circus_member_rules.specs.declared.occurrence.Occurrence.{Occurrence}
-use Rattle.circus_member_rules.specs.declared.occurrence.Occurrence.TheVariants as comes
 use Rattle.circus_member_rules.specs.declared.occurrence.Effect.{Effect}
 use Rattle.circus_member_rules.specs.declared.occurrence.Effect.TheVariants as made
-use Rattle.circus_member_rules.specs.OpenAsks.{is_name, asking_of}
 use Rattle.circus_member_rules.specs.Messages.{ask_message, request_message, fetch_message, reply_message, stale_message, before_message}
 
 -- the Ringmaster's node
@@ -125,10 +119,6 @@ is_to troupe e = nat_eq e.1.header.server troupe
 abbrev pub calls_for_view : Knowing → View → AskName × Asking → List Effect
 calls_for_view k view e = calls_of_ask k e.0 e.1 (asking.calls_for_a_view view k.down e.1.asked)
 
--- those of any ask, which may be to another troupe
-abbrev pub calls_by_ask : Knowing → View → AskName × Asking → List Effect
-calls_by_ask k view e = if is_to view.troupe e then calls_for_view k view e else []
-
 -- a new view makes calls due: by the asks, then by the view
 abbrev pub calls_for_a_new_view : Knowing → View → List (AskName × Asking) → List Effect
 calls_for_a_new_view k view asks = flat_map (calls_for_view k view) (filter (is_to view.troupe) asks)
@@ -172,39 +162,6 @@ stays_open k waits e = waits e.0 || not (is_settled k e.1)
 
 abbrev pub close_asks : Knowing → (AskName → Bool) → List (AskName × Asking) → List (AskName × Asking)
 close_asks k waits asks = filter (stays_open k waits) asks
-
--- one ask is closed where it is settled
-abbrev pub close_ask : Knowing → AskName → List (AskName × Asking) → List (AskName × Asking)
-close_ask k name asks =
-    option_map_or (λ (a : Asking). if is_settled k a then remove_entry (is_name name) asks else asks) (asking_of asks name) asks
-
--- one that doesn't wait for its value
-abbrev pub close_one : Knowing → (AskName → Bool) → AskName → List (AskName × Asking) → List (AskName × Asking)
-close_one k waits name asks = if waits name then asks else close_ask k name asks
-
--- what happens concerns one ask, or each, or only the one that waits
-abbrev pub concern_of : Occurrence → Concern
-concern_of (comes.Asked header body sender) = concern.Nothing
-concern_of (comes.Fetched incarnation sender) = concern.Nothing
-concern_of (comes.Replied name from reply) = concern.One name
-concern_of (comes.IsStale name server from incarnation) = concern.One name
-concern_of (comes.IsBefore name from) = concern.One name
-concern_of (comes.Told request table) = concern.Each
-concern_of (comes.Restored state count) = concern.Nothing
-concern_of (comes.Declared node) = concern.Each
-concern_of comes.Joins = concern.Nothing
-
--- what a step concerns of the asks; each of them
-abbrev pub close_concerned : Knowing → (AskName → Bool) → Concern → List (AskName × Asking) → List (AskName × Asking)
-close_concerned k waits (concern.One name) asks = close_one k waits name asks
-close_concerned k waits concern.Nothing asks = asks
-close_concerned k waits concern.Each asks = close_asks k waits asks
-
--- and the ask that waited for its value
-abbrev pub close_by : Knowing → (AskName → Bool) → Concern → Option AskName → List (AskName × Asking) → List (AskName × Asking)
-close_by k waits c waited asks =
-    let left = close_concerned k waits c asks in
-    option_map_or (λ name. close_one k waits name left) waited left
 
 -- ---- a state request comes, and states are given
 

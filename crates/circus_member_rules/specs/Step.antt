@@ -31,7 +31,6 @@ use Rattle.circus_member_rules.specs.declared.place.Place.{Place}
 use Rattle.circus_member_rules.specs.declared.place.Beginning.{Beginning}
 use Rattle.circus_member_rules.specs.declared.place.Beginning.TheVariants.{Founder, Spare}
 use Rattle.circus_member_rules.specs.declared.occurrence.AskName.{AskName}
-use Rattle.circus_member_rules.specs.declared.closing.Concern.{Concern}
 use Rattle.circus_member_rules.specs.declared.occurrence.Difference.{Difference}
 use Rattle.circus_member_rules.specs.declared.occurrence.Occurrence.{Occurrence}
 use Rattle.circus_member_rules.specs.declared.occurrence.Occurrence.TheVariants as comes
@@ -186,12 +185,6 @@ module _ {M : Type 0} where
   keep_ask_open d =
       let m = d.member in
       record d { member = record m { asks = rules.close_asks m.known (waits m.performing.kept) m.asks } }
-
-  -- of those alone that a step concerns, and of the one that waited before it
-  abbrev pub closed_by : Concern → Option AskName → Doing M → Doing M
-  closed_by concern waited d =
-      let m = d.member in
-      record d { member = record m { asks = rules.close_by m.known (waits m.performing.kept) concern waited m.asks } }
 
   abbrev pub look_up : Doing M → Doing M
   look_up d =

@@ -3,13 +3,13 @@ ghost use Rattle.std.specs.Prelude.{◌≡◌, ◌++◌, All, slice_get, IfOk, O
 ghost use Rattle.circus_header.specs.CallFields.{IsIncarnation};
 ghost use Rattle.circus_fanout.specs.Asking as asking;
 ghost use Rattle.circus_member_rules.specs.Rules as rules;
+ghost use Rattle.circus_member_rules.specs.Seen.Closing as closing;
 ghost use Rattle.circus_member_rules.specs.Callable.{AreViews, MayCall, CallsAView};
 
-use crate::messages::ask_message;
 use crate::{AskName, Difference, Effect, Effects, Purpose};
 use circus_collate::{Collated, Said, View};
 use circus_fanout::{Fanout, Known, Next, Send, Watched};
-use circus_header::{CallHeader, Reply};
+use circus_header::{Reply, ask_bytes};
 use circus_value::{Duplicate, NoMemory};
 use std::alloc::Global;
 
@@ -21,16 +21,6 @@ fn incarnation_of(known: &Known, troupe: u16) -> u32
         Some(view) => view.incarnation,
         None => 0,
     }
-}
-
-// The header of a call that is made now.
-fn header_now(known: &Known, fanout: &Fanout, send: Send) -> Result<CallHeader, NoMemory>
-    ensures { IfOk result (λ header. header ≡ rules.header_now known.now fanout.now send) }
-{
-    let mut header = fanout.header().copy()?;
-    header.client_incarnation = incarnation_of(known, header.client);
-    header.server_incarnation = send.incarnation;
-    Ok(header)
 }
 
 /// The view of an ask's server.
@@ -52,12 +42,13 @@ pub(crate) fn call_of_ask(
     requires view { IsIncarnation send.incarnation }
     ensures { IfOk result (λ call. call ≡ rules.call_of_ask known.now name fanout.now send) }
 {
-    let header = header_now(known, fanout, send)?;
-    let server = header.server;
+    let header = fanout.header();
+    let own = incarnation_of(known, header.client);
+    let message = ask_bytes(alloc, header, own, send.incarnation, fanout.body())?;
     Ok(Effect::Call {
         to: send.node,
-        message: ask_message(alloc, header, fanout.body())?,
-        purpose: Purpose::Ask(name, server),
+        message,
+        purpose: Purpose::Ask(name, header.server),
     })
 }
 
@@ -189,7 +180,7 @@ pub(crate) fn view_calls(
     ensures kept { OnOk result
         ((name, fanout.new) ≡ rules.seen_by_ask known.now view.now (name, fanout.old)) }
     ensures made { OnOk result
-        (effects.new ≡ effects.old ++ rules.calls_by_ask known.now view.now (name, fanout.old)) }
+        (effects.new ≡ effects.old ++ closing.calls_by_ask known.now view.now (name, fanout.old)) }
 {
     if fanout.header().server != view.troupe {
         return Ok(());

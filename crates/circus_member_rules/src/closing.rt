@@ -1,7 +1,7 @@
 // Which asks a step closes.
 ghost use Rattle.std.specs.Prelude.{◌≡◌};
 ghost use Rattle.circus_member_rules.specs.OpenAsks.{is_waiting};
-ghost use Rattle.circus_member_rules.specs.Rules as rules;
+ghost use Rattle.circus_member_rules.specs.Seen.Closing as closing;
 
 use crate::open_asks::OpenAsks;
 use crate::{AskName, Occurrence};
@@ -18,7 +18,7 @@ pub enum Concern {
 
 /// What an occurrence concerns of them. It takes no memory.
 pub fn concern_of(occurrence: &Occurrence) -> Concern
-    ensures { result ≡ rules.concern_of occurrence.now }
+    ensures { result ≡ closing.concern_of occurrence.now }
 {
     match occurrence {
         Occurrence::Replied { name, .. }
@@ -41,7 +41,7 @@ pub fn close_by(
     concern: Concern,
     waited: Option<AskName>,
 )
-    ensures { asks.new ≡ rules.close_by known.now (is_waiting waits) concern waited asks.old }
+    ensures { asks.new ≡ closing.close_by known.now (is_waiting waits) concern waited asks.old }
 {
     close_concerned(asks, known, waits, concern);
     if let Some(name) = waited {
@@ -50,7 +50,7 @@ pub fn close_by(
 }
 
 fn close_concerned(asks: &mut OpenAsks, known: &Known, waits: Option<AskName>, concern: Concern)
-    ensures { asks.new ≡ rules.close_concerned known.now (is_waiting waits) concern asks.old }
+    ensures { asks.new ≡ closing.close_concerned known.now (is_waiting waits) concern asks.old }
 {
     match concern {
         Concern::One(name) => close_one(asks, known, waits, name),
@@ -61,7 +61,7 @@ fn close_concerned(asks: &mut OpenAsks, known: &Known, waits: Option<AskName>, c
 
 // Closes one that doesn't wait for its value.
 fn close_one(asks: &mut OpenAsks, known: &Known, waits: Option<AskName>, name: AskName)
-    ensures { asks.new ≡ rules.close_one known.now (is_waiting waits) name asks.old }
+    ensures { asks.new ≡ closing.close_one known.now (is_waiting waits) name asks.old }
 {
     if waits != Some(name) {
         asks.close(known, name);

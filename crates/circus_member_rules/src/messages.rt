@@ -3,30 +3,16 @@ ghost use Rattle.std.specs.Prelude.{◌≡◌, ◌++◌, true, IfOk, OnOk};
 ghost use Rattle.circus_value.specs.ShapeTree.{FieldTrees};
 ghost use Rattle.circus_external.specs.Spelling.{spelling_of_all, fields_admit};
 ghost use Rattle.circus_header.specs.Field.{bytes_of};
-ghost use Rattle.circus_header.specs.CallFields.{call_fields, IsCall, IsAsk, IsRequest, IsModule, IsIncarnation};
+ghost use Rattle.circus_header.specs.CallFields.{call_fields, IsCall, IsRequest, IsModule, IsIncarnation};
 ghost use Rattle.circus_header.specs.ReturnFields.{return_fields, IsReturn};
 ghost use Rattle.circus_header.specs.declared.answer.ReturnHeader.TheVariants as header;
 ghost use Rattle.circus_member_rules.specs.Messages as messages;
 ghost use Rattle.circus_member_rules.specs.Callable.{IsWritable};
 
 use circus_external::{write_all, write_word};
-use circus_header::{Call, CallHeader, Reply, Request, ReturnHeader, write_call, write_return};
-use circus_value::{Duplicate, ListOf, Message, NoMemory, Outcome, Values};
+use circus_header::{Call, Reply, Request, ReturnHeader, reply_bytes, write_call, write_return};
+use circus_value::{ListOf, Message, NoMemory, Outcome, Values, values_size};
 use std::alloc::Global;
-
-/// An ask: the header, and behind it the arguments.
-pub(crate) fn ask_message(
-    alloc: Global,
-    header: CallHeader,
-    body: &Message,
-) -> Result<Message, NoMemory>
-    requires { IsAsk header }
-    ensures { IfOk result (λ message. message ≡ messages.ask_message header body.now) }
-{
-    let mut message = call_message(alloc, &Call::Ask(header))?;
-    message.append(body.as_slice())?;
-    Ok(message)
-}
 
 /// A request to the Ringmaster.
 pub(crate) fn request_message(alloc: Global, request: Request) -> Result<Message, NoMemory>
@@ -55,8 +41,9 @@ pub fn reply_message(alloc: Global, reply: &Reply) -> Result<Message, NoMemory>
     requires outcome { IsWritable reply.now.outcome }
     ensures { IfOk result (λ message. message ≡ messages.reply_message reply.now) }
 {
-    let header = ReturnHeader::Reply(reply.clock.copy()?);
-    let mut message = return_message(alloc, &header)?;
+    let (Outcome::Returned(values) | Outcome::Raised(_, values)) = &reply.outcome;
+    let room = (values_size(values) as usize).saturating_add(4);
+    let mut message = reply_bytes(alloc, &reply.clock, room)?;
     write_outcome(alloc, &reply.outcome, &mut message)?;
     Ok(message)
 }

@@ -5,6 +5,7 @@ ghost use Rattle.circus_header.specs.CallFields.{IsIncarnation};
 ghost use Rattle.circus_fanout.specs.Asking as asking;
 ghost use Rattle.circus_member_rules.specs.OpenAsks.{is_waiting, asking_of, with_ask, with_asking};
 ghost use Rattle.circus_member_rules.specs.Rules as rules;
+ghost use Rattle.circus_member_rules.specs.Seen.Closing as closing;
 ghost use Rattle.circus_member_rules.specs.Callable.{AreViews, MayCall, AllMayCall};
 
 use crate::calls_out::{is_settled, take_reply, take_stale, view_calls};
@@ -152,7 +153,7 @@ impl OpenAsks {
             OnOk result (self.new
             ≡ slice_set self.old place (rules.seen_by_ask known.now view.now e))) }
         ensures made { IfSome (slice_get self.old place) (λ e.
-            OnOk result (effects.new ≡ effects.old ++ rules.calls_by_ask known.now view.now e)) }
+            OnOk result (effects.new ≡ effects.old ++ closing.calls_by_ask known.now view.now e)) }
     {
         let (name, fanout) = self.asks.pair_mut(place);
         view_calls(alloc, known, view, *name, fanout, effects)
@@ -160,7 +161,7 @@ impl OpenAsks {
 
     /// Closes an ask that has a value, where it is settled.
     pub fn close(&mut self, known: &Known, name: AskName)
-        ensures { self.new ≡ rules.close_ask known.now name self.old }
+        ensures { self.new ≡ closing.close_ask known.now name self.old }
     {
         let settled = match self.asks.get(&name) {
             Some(fanout) => is_settled(known, fanout),
