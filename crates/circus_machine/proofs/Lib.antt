@@ -11,5 +11,6 @@ pub mod Following
 pub mod Fulfilling
 pub mod Keeping
 pub mod Lawful
+pub mod Leading
 pub mod Moving
 pub mod Turning

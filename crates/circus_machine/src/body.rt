@@ -1,5 +1,5 @@
 // Bodies of procedures, compiled.
-ghost use Rattle.std.specs.Prelude.{◌≡◌, ◌<◌, ◌≤◌, [], ◌∷◌, ◌++◌, List, length, IfOk};
+ghost use Rattle.std.specs.Prelude.{◌≡◌, ◌<◌, [], ◌∷◌, ◌++◌, List, IfOk};
 ghost use Rattle.circus_value.specs.ValueTree.{ValueTree};
 ghost use Rattle.circus_value.specs.ExternalSize.{size_of_values};
 ghost use Rattle.circus_value.specs.declared.outcome.Outcome.{Outcome as Ended};
@@ -17,7 +17,7 @@ use crate::store::Variables;
 use circus_checked::CheckedStatements;
 use circus_model::Turn;
 use circus_value::{NoMemory, Outcome, State, Values};
-use std::alloc::{AllocError, Global};
+use std::alloc::Global;
 
 // The steps that an execution has.
 const MOST_STEPS: u32 = 1_000_000;
@@ -30,7 +30,6 @@ pub struct Body {
     pub locals: Values,
     code: Code,
     ghost compiled: { acts_of code ≡ codes_of (statement_trees statements) } by { one_way (acts_of code) (codes_of (statement_trees statements)) },
-    ghost short: { length code ≤ 4294967295 },
     ghost small: { size_of_values locals < 4294967296 },
 }
 
@@ -46,9 +45,6 @@ impl Body {
         ensures locals { IfOk result (λ body. body.locals ≡ locals) }
     {
         let code = code_of(alloc, &statements)?;
-        if code.len() > u32::MAX as usize {
-            return Err(AllocError);
-        }
         Ok(Body {
             statements,
             locals,
@@ -79,7 +75,7 @@ impl Body {
             steps: MOST_STEPS,
             asks: 0,
         };
-        run(alloc, limit, &self.code, execution, 0)
+        run(alloc, limit, self.code.as_slice(), execution, 0)
     }
 
     /// Goes on with the reply to the last ask. After `NoMemory` the execution is gone.
@@ -100,6 +96,6 @@ impl Body {
             (replies ++ reply.now ∷ []))) }
         ensures pauses { IfOk result (bodies.Pauses limit self.now.statements self.now.locals) }
     {
-        resume(alloc, limit, &self.code, paused, reply)
+        resume(alloc, limit, self.code.as_slice(), paused, reply)
     }
 }

@@ -14,7 +14,7 @@ use circus_checked::{
     CheckedPlaces, CheckedStatement, CheckedStatements, NumberKind,
 };
 use circus_value::{Duplicate, ListOf, NoMemory};
-use std::alloc::{AllocError, Global};
+use std::alloc::Global;
 
 /// What is done at once. An offset is how many instructions are passed over, on the way ahead from the one behind it.
 #[derive(Debug, Drop)]
@@ -23,11 +23,11 @@ pub(crate) enum Instruction {
     /// An item, the sequence, the most items of it, and the kind of its items where these are numbers.
     Append(CheckedExpression, CheckedPlace, u16, Option<NumberKind>),
     /// Goes on ahead where the condition doesn't hold.
-    Unless(CheckedExpression, u32),
+    Unless(CheckedExpression, usize),
     /// Goes on ahead.
-    Jump(u32),
+    Jump(usize),
     /// Goes back to so many instructions before it where the condition holds.
-    Again(CheckedExpression, u32),
+    Again(CheckedExpression, usize),
     Ask(Asking),
     Give(CheckedExpressions),
     /// The error with this number, with its values.
@@ -43,7 +43,7 @@ pub(crate) struct Asking {
     pub into: CheckedPlaces,
     pub catches: Catches,
     /// The length of the code of the handlers.
-    pub skip: u32,
+    pub skip: usize,
 }
 
 /// A handler of a call.
@@ -54,7 +54,7 @@ pub(crate) struct Catch {
     /// Where the error's values go.
     pub places: CheckedPlaces,
     /// Where its code begins, on the way ahead from the instruction behind the call.
-    pub offset: u32,
+    pub offset: usize,
 }
 
 /// Where errors of a call go, in the order in which they are tried.
@@ -120,11 +120,11 @@ fn append(alloc: Global, statement: &CheckedStatement, code: &mut Code) -> Resul
 }
 
 // The offset from one place to another one behind it.
-fn offset(from: usize, to: usize) -> Result<u32, NoMemory>
+fn offset(from: usize, to: usize) -> usize
     requires { from < to }
-    ensures { IfOk result (λ offset. offset ≡ to - from - 1) }
+    ensures { result ≡ to - from - 1 }
 {
-    u32::try_from(to - from - 1).map_err(|_| AllocError)
+    to - from - 1
 }
 
 #[cycle(compiling)]
@@ -149,11 +149,10 @@ fn append_branch(
     code.push(Instruction::Jump(0))?;
     let second = code.len();
     append_all(alloc, others, code)?;
-    code.set(
-        at,
-        Instruction::Unless(condition.copy()?, offset(at, second)?),
-    );
-    code.set(behind, Instruction::Jump(offset(behind, code.len())?));
+    let unless = Instruction::Unless(condition.copy()?, offset(at, second));
+    code.set(at, unless);
+    let offset = offset(behind, code.len());
+    code.set(behind, Instruction::Jump(offset));
     Ok(())
 }
 
@@ -174,7 +173,7 @@ fn append_loop(
     let at = code.len();
     code.push(Instruction::Jump(0))?;
     append_all(alloc, body, code)?;
-    let offset = offset(at, code.len())?;
+    let offset = offset(at, code.len());
     code.set(at, Instruction::Jump(offset));
     code.push(Instruction::Again(condition.copy()?, offset))
 }
@@ -191,7 +190,7 @@ fn append_call(alloc: Global, call: &CheckedCall, code: &mut Code) -> Result<(),
     let at = code.len();
     code.push(Instruction::Jump(0))?;
     let catches = append_handlers(alloc, at, &call.handlers, code)?;
-    let asking = asked_with(call, catches, offset(at, code.len())?)?;
+    let asking = asked_with(call, catches, offset(at, code.len()))?;
     code.set(at, Instruction::Ask(asking));
     Ok(())
 }
@@ -217,18 +216,18 @@ fn append_handlers(
         catches.push(Catch {
             error: handler.error,
             places: handler.places.copy()?,
-            offset: offset(at, code.len())?,
+            offset: offset(at, code.len()),
         })?;
         append_all(alloc, &handler.statements, code)?;
         exits.push(code.len())?;
         code.push(Instruction::Jump(0))?;
     }
-    lead_to_end(code, exits.as_slice())?;
+    lead_to_end(code, exits.as_slice());
     Ok(catches)
 }
 
 // The ask of a call.
-fn asked_with(call: &CheckedCall, catches: Catches, skip: u32) -> Result<Asking, NoMemory>
+fn asked_with(call: &CheckedCall, catches: Catches, skip: usize) -> Result<Asking, NoMemory>
     ensures { IfOk result (λ asking.
         act_of (Ask asking)
         ≡ acts.ask call.now.callee call.now.procedure call.now.arguments call.now.into
@@ -246,15 +245,13 @@ fn asked_with(call: &CheckedCall, catches: Catches, skip: u32) -> Result<Asking,
 
 // Makes the jumps at these places lead to the end.
 #[tactic(auto, using(crate::proofs::CompilingSteps::leads_done))]
-fn lead_to_end(code: &mut Code, exits: &[usize]) -> Result<(), NoMemory>
+fn lead_to_end(code: &mut Code, exits: &[usize])
     requires { All (λ exit. exit < length code.old) exits.now }
-    ensures code { OnOk result
-        (acts_of code.new ≡ leading_to (length code.old) exits.now (acts_of code.old)) }
+    ensures code { acts_of code.new ≡ leading_to (length code.old) exits.now (acts_of code.old) }
     ensures long { length code.new ≡ length code.old }
 {
     for exit in exits {
-        let offset = offset(*exit, code.len())?;
+        let offset = offset(*exit, code.len());
         code.set(*exit, Instruction::Jump(offset));
     }
-    Ok(())
 }

@@ -1,8 +1,9 @@
 // An execution between two instructions, and what each instruction does.
-ghost use Rattle.std.specs.Prelude.{◌≡◌, ◌<◌, if◌then◌else◌, map, OnOk};
+ghost use Rattle.std.specs.Prelude.{◌≡◌, ◌+◌, ◌<◌, ◌≤◌, if◌then◌else◌, map, OnOk};
 ghost use Rattle.circus_checked.specs.ExpressionOf.{tree_of};
 ghost use Rattle.circus_model.specs.declared.language_error.LanguageError.TheVariants.{Unhandled};
 ghost use Rattle.circus_model.specs.LanguageError.{number_of, is_language_error};
+ghost use Rattle.circus_machine.specs.declared.code.Instruction.TheVariants.{Ask};
 ghost use Rattle.circus_machine.specs.Meaning as meaning;
 ghost use Rattle.circus_machine.specs.Seen.Changing.{AreSized, changed_over};
 ghost use Rattle.circus_machine.specs.Seen.Code as acts;
@@ -168,7 +169,7 @@ impl Execution {
         values: &Values,
     ) -> Result<usize, NoValue>
         requires sized { AreSized self.old.variables }
-        requires place { at < 4294967296 }
+        requires place { at + 1 + acts.reach (map catch_of catches.now) ≤ usize.MAX }
         ensures { Does beside
             (acts.catch_place limit self.old.variables.states at
             (map catch_of catches.now) error values.now) result self.old self.new }
@@ -176,7 +177,7 @@ impl Execution {
         for catch in catches {
             if catch.is_for(error) {
                 self.fill(alloc, limit, catch.places.as_slice(), values)?;
-                return Ok(at + 1 + catch.offset as usize);
+                return Ok(at + 1 + catch.offset);
             }
         }
         Err(NoValue::Raises(unhandled_error(error)))
@@ -193,7 +194,7 @@ impl Execution {
         reply: &Outcome,
     ) -> Result<usize, NoValue>
         requires sized { AreSized self.old.variables }
-        requires place { at < 4294967296 }
+        requires place { at + 1 + acts.farthest (act_of (Ask asking.now)) ≤ usize.MAX }
         ensures { Does beside
             (acts.reply_place limit self.old.variables.states at asking.now.into
             (map catch_of asking.now.catches) asking.now.skip reply.now) result self.old self.new }
@@ -201,7 +202,7 @@ impl Execution {
         match reply {
             Outcome::Returned(results) => {
                 self.fill(alloc, limit, asking.into.as_slice(), results)?;
-                Ok(at + 1 + asking.skip as usize)
+                Ok(at + 1 + asking.skip)
             }
             Outcome::Raised(error, values) => {
                 self.handle(alloc, limit, asking.catches.as_slice(), at, *error, values)
@@ -218,7 +219,7 @@ impl Execution {
         at: usize,
     ) -> Result<Move, NoValue>
         requires sized { AreSized self.old.variables }
-        requires place { at < 4294967296 }
+        requires place { at + 1 + acts.farthest (act_of instruction.now) ≤ usize.MAX }
         ensures moves { Moves limit self.old.variables.states
             (act_of instruction.now) at result self.old self.new }
         ensures ahead { GoesAhead at result self.old self.new }
@@ -237,13 +238,13 @@ impl Execution {
                 if self.test(alloc, limit, condition)? {
                     Ok(Move::Goes(at + 1))
                 } else {
-                    Ok(Move::Goes(at + 1 + *offset as usize))
+                    Ok(Move::Goes(at + 1 + *offset))
                 }
             }
-            Instruction::Jump(offset) => Ok(Move::Goes(at + 1 + *offset as usize)),
+            Instruction::Jump(offset) => Ok(Move::Goes(at + 1 + *offset)),
             Instruction::Again(condition, offset) => {
                 if self.test(alloc, limit, condition)? {
-                    Ok(Move::Goes(at.saturating_sub(*offset as usize)))
+                    Ok(Move::Goes(at.saturating_sub(*offset)))
                 } else {
                     Ok(Move::Goes(at + 1))
                 }

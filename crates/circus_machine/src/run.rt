@@ -1,5 +1,5 @@
 // Executions of code, until they ask or end.
-ghost use Rattle.std.specs.Prelude.{◌≡◌, ◌<◌, ◌≤◌, [], ◌∷◌, ◌++◌, List, Some, length, take, slice_get, IfOk};
+ghost use Rattle.std.specs.Prelude.{◌≡◌, [], ◌∷◌, List, take, IfOk};
 ghost use Rattle.circus_value.specs.declared.outcome.Outcome.{Outcome as Ended};
 ghost use Rattle.circus_value.specs.declared.outcome.Outcome.TheVariants.{Raised};
 ghost use Rattle.circus_model.specs.LanguageError.{number_of};
@@ -12,7 +12,7 @@ ghost use Rattle.circus_machine.specs.Seen.Code as acts;
 ghost use Rattle.circus_machine.specs.Seen.Instructions.{acts_of};
 ghost use Rattle.circus_machine.specs.Seen.Running.{going_of, Awaits, StandsAtAsk};
 
-use crate::code::{Code, Instruction};
+use crate::code::Instruction;
 use crate::execution::{Execution, Move};
 use circus_evaluate::NoValue;
 use circus_model::{LanguageError, Turn};
@@ -53,12 +53,12 @@ impl Execution {
 pub(crate) fn run(
     alloc: Global,
     limit: u32,
-    code: &Code,
+    code: &[Instruction],
     mut execution: Execution,
     mut place: usize,
 ) -> Result<Turn<Paused>, NoMemory>
     requires sized { AreSized execution.variables }
-    requires short { length code.now ≤ 4294967295 }
+    requires leads { acts.LeadsWithin (acts_of code.now) }
     ensures { (flow : List Ended → Flow Going)
         → ((replies : List Ended)
         → acts.Comes limit execution.variables.states (acts_of code.now) (flow replies) place
@@ -92,12 +92,12 @@ pub(crate) fn run(
 pub(crate) fn resume(
     alloc: Global,
     limit: u32,
-    code: &Code,
+    code: &[Instruction],
     paused: Paused,
     reply: &Outcome,
 ) -> Result<Turn<Paused>, NoMemory>
     requires sized { AreSized paused.execution.variables }
-    requires short { length code.now ≤ 4294967295 }
+    requires leads { acts.LeadsWithin (acts_of code.now) }
     requires asking { StandsAtAsk (acts_of code.now) paused.place }
     ensures { (flow : List Ended → Flow Going)
         → Awaits limit paused.execution.variables.states (acts_of code.now) flow paused

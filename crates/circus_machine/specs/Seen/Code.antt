@@ -1,5 +1,5 @@
 -- Bodies as flat lists of instructions with jumps, and what the machine does at each.
-use Rattle.std.specs.Prelude.{◌≡◌, ℕ, suc, ◌+◌, ◌-◌, if◌then◌else◌, List, [], ◌∷◌, ◌++◌, length, Option, Some, None, slice_get}
+use Rattle.std.specs.Prelude.{◌≡◌, ℕ, suc, ◌+◌, ◌-◌, ◌≤◌, max, if◌then◌else◌, List, [], ◌∷◌, ◌++◌, length, Option, Some, None, slice_get}
 use Rattle.circus_value.specs.ValueTree.{ValueTree}
 use Rattle.circus_value.specs.declared.outcome.Outcome.{Outcome}
 use Rattle.circus_value.specs.declared.outcome.Outcome.TheVariants.{Returned, Raised}
@@ -29,6 +29,23 @@ pub data Act : Type 0 where
   ask : ℕ → ℕ → List ExpressionTree → List CheckedPlace → List Catch → ℕ → Act
   give : List ExpressionTree → Act
   raise : ℕ → List ExpressionTree → Act
+
+-- how far behind an ask the farthest of these goes on
+abbrev pub reach : List Catch → ℕ
+reach [] = 0
+reach (h ∷ hs) = max h.offset (reach hs)
+
+-- how far behind it an instruction may lead at most
+abbrev pub farthest : Act → ℕ
+farthest (unless e k) = k
+farthest (jump k) = k
+farthest (ask callee procedure es places table skip) = max skip (reach table)
+farthest _ = 0
+
+-- each instruction leads within the code, or to its end
+abbrev pub LeadsWithin : List Act → Type 0
+LeadsWithin [] = Unit {0}
+LeadsWithin (a ∷ more) = (farthest a ≤ length more) × LeadsWithin more
 
 abbrev mutual
   pub code_of : StatementTree → List Act

@@ -25,10 +25,10 @@ append_branch-returns-clause-code t c =
     let two = emitted_length c.append_all.new.code c.push.new.self ss then_is in
     let three = emitted_length c.push-2.new.self c.append_all.new.code (jump 0 ∷ []) (acts_pushed c.push-2.new.self c.append_all.new.code (I.Jump 0) second) in
     let four = emitted_length c.append_all-2.new.code c.push-2.new.self others others_are in
-    let k = c.in_ok-offset.field-0 in
-    let n = c.in_ok-offset-2.field-0 in
-    let k_is : k ≡ length ss + 1 = omega (arith, c.in_ok-offset.ensures, c.len-second.ensures, c.len-at.ensures, one, two, three) in
-    let n_is : n ≡ length others = omega (arith, c.in_ok-offset-2.ensures, c.len.ensures, c.len-behind.ensures, ap length c.set.ensures, length-set c.append_all-2.new.code c.len-at.result (I.Unless c.in_ok-copy.field-0 k), one, two, three, four) in
+    let k = c.offset.result in
+    let n = c.offset-offset.result in
+    let k_is : k ≡ length ss + 1 = omega (arith, c.offset.ensures, c.len-second.ensures, c.len-at.ensures, one, two, three) in
+    let n_is : n ≡ length others = omega (arith, c.offset-offset.ensures, c.len.ensures, c.len-behind.ensures, ap length c.set.ensures, length-set c.append_all-2.new.code c.len-at.result (I.Unless c.in_ok-copy.field-0 k), one, two, three, four) in
     branch_emitted before c.push.new.self c.append_all.new.code c.push-2.new.self c.append_all-2.new.code c.set.new.self c.set-2.new.self ss others (I.Unless c.in_ok-copy.field-0 k) (I.Jump n) c.len-at.result c.len-behind.result
     first then_is second others_are c.set.ensures c.set-2.ensures c.len-at.ensures c.len-behind.ensures
     ∙ ap (λ e. acts_of before ++ unless (expressions.tree_of e) k ∷ (ss ++ jump n ∷ others)) c.in_ok-copy.ensures
@@ -43,8 +43,8 @@ append_loop-returns-clause-code t c =
     let body_is = c.in_ok-append_all.ensures.code in
     let one = emitted_length c.push.new.self before (jump 0 ∷ []) (acts_pushed c.push.new.self before (I.Jump 0) first) in
     let two = emitted_length c.append_all.new.code c.push.new.self body body_is in
-    let k = c.in_ok-offset.offset in
-    let k_is : k ≡ length body = omega (arith, c.in_ok-offset.ensures, c.len.ensures, c.len-at.ensures, one, two) in
+    let k = c.offset-offset.result in
+    let k_is : k ≡ length body = omega (arith, c.offset-offset.ensures, c.len.ensures, c.len-at.ensures, one, two) in
     on_ok_weaker c.push-2.result
     (λ pushed.
     loop_emitted before c.push.new.self c.append_all.new.code c.set.new.self c.push-2.new.self body (I.Jump k) (I.Again c.in_ok-copy.field-0 k) c.len-at.result first body_is c.set.ensures pushed c.len-at.ensures
@@ -56,12 +56,12 @@ pub append_call-returns-clause-code : goal.append_call-returns-clause-code
 append_call-returns-clause-code t c =
     let before = c.args.code.now in
     let rest = handlers_code (handler_trees c.args.call.now.handlers) in
-    let skip = c.in_ok-offset.field-0 in
+    let skip = c.offset.result in
     let first = c.in_ok-push.ensures.ok in
     let handlers = c.in_ok-catches.ensures.code in
     let one = emitted_length c.push.new.self before (jump 0 ∷ []) (acts_pushed c.push.new.self before (I.Jump 0) first) in
     let two = emitted_length c.append_handlers.new.code c.push.new.self rest handlers in
-    let skip_is : skip ≡ length rest = omega (arith, c.in_ok-offset.ensures, c.len.ensures, c.len-at.ensures, one, two) in
+    let skip_is : skip ≡ length rest = omega (arith, c.offset.ensures, c.len.ensures, c.len-at.ensures, one, two) in
     call_emitted before c.push.new.self c.append_handlers.new.code c.set.new.self rest (I.Ask c.in_ok-asking.asking) c.len-at.result first handlers c.set.ensures c.len-at.ensures
     ∙ ap (λ a. acts_of before ++ a ∷ rest) c.in_ok-asking.ensures
     ∙ ap (λ ts. acts_of before ++ ask c.args.call.now.callee c.args.call.now.procedure c.args.call.now.arguments c.args.call.now.into ts skip ∷ rest) c.in_ok-catches.ensures.catches
@@ -99,9 +99,9 @@ append_handlers-loop-handler-preserved t c =
     let out = c.in_ok-push-3.ensures.ok in
     record {
       code = handlers_more hs i h before c.append_all.new.code c.push-in-loop-handler-2.new.self _ few is body out c.loop-handler.invariant.code;
-      table = table_more hs i h before c.append_all.new.code c.push-in-loop-handler-2.new.self c.loop-handler.catches c.push.new.self c.args.at c.in_ok-offset.field-0 _ few is body out c.loop-handler.invariant.longer
-          (c.in_ok-offset.ensures ∙ ap (λ n. n - c.args.at - 1) c.len.ensures)
-          (c.in_ok-push.ensures.ok ∙ ap (λ ps. c.loop-handler.catches ++ record { error = h.error; places = ps; offset = c.in_ok-offset.field-0 } ∷ []) c.in_ok-copy.ensures) c.loop-handler.invariant.table;
+      table = table_more hs i h before c.append_all.new.code c.push-in-loop-handler-2.new.self c.loop-handler.catches c.push.new.self c.args.at c.offset.result _ few is body out c.loop-handler.invariant.longer
+          (c.offset.ensures ∙ ap (λ n. n - c.args.at - 1) c.len.ensures)
+          (c.in_ok-push.ensures.ok ∙ ap (λ ps. c.loop-handler.catches ++ record { error = h.error; places = ps; offset = c.offset.result } ∷ []) c.in_ok-copy.ensures) c.loop-handler.invariant.table;
       exits = exits_more hs i h before c.append_all.new.code c.push-in-loop-handler-2.new.self c.loop-handler.exits c.push-in-loop-handler.new.self _ few is body out
           (c.in_ok-push-2.ensures.ok ∙ ap (λ n. c.loop-handler.exits ++ n ∷ []) c.len-in-loop-handler.ensures) c.loop-handler.invariant.exits;
       here = c.loop-handler.invariant.here;
@@ -125,7 +125,7 @@ append_handlers-returns-clause-code t c =
     let code = handlers_done hs i c.loop-handler.code _ c.loop-handler-test.false c.loop-handler.invariant.code in
     let exits = exits_done hs i c.loop-handler.exits (length c.loop-handler.code) _ c.loop-handler-test.false c.loop-handler.invariant.exits in
     handlers_emitted c.args.code.now c.loop-handler.code c.lead_to_end.new.code c.args.handlers.now c.loop-handler.exits c.args.at code exits c.loop-handler.invariant.here
-    (c.in_ok-lead_to_end.ensures.code ∙ ap (λ xs. leading_to (length c.loop-handler.code) xs (acts_of c.loop-handler.code)) c.as_slice.ensures)
+    (c.lead_to_end.ensures.code ∙ ap (λ xs. leading_to (length c.loop-handler.code) xs (acts_of c.loop-handler.code)) c.as_slice.ensures)
 
 pub append_handlers-returns-clause-catches : goal.append_handlers-returns-clause-catches
 append_handlers-returns-clause-catches t c =
