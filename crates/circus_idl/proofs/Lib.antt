@@ -11,7 +11,7 @@ mod WholeObeys
 pub mod Obeying
 mod FoundWhole
 mod RuleFaults
-mod Fronts
+pub mod Fronts
 mod OneStop
 mod OneAnswer
 mod ReadIs
