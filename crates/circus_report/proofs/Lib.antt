@@ -1,3 +1,4 @@
+pub mod Leaving
 pub mod LinesAdded
 pub mod PutLemmas
 pub mod SentLines

@@ -25,6 +25,14 @@ from_here xs i x at =
     split ∙ ap (λ y. y ∷ drop (i + 1) xs) (get_or_from_slice_get xs i x x at)
 
 module _ {M : Type 0} where
+  -- the lines of the first member that is left, and then those of the others
+  pub member_first : (names : Names) (n : ℕ) (hosts : List Host) (nodes : List (Standing M)) (host : Host) → n < length hosts → host ≡ get_or hosts n host
+      → (s : Standing M) → slice_get nodes n ≡ Some s
+      → members_lines names n (drop n hosts) (drop n nodes) ≡ member_at names n host s ++ members_lines names (n + 1) (drop (n + 1) hosts) (drop (n + 1) nodes)
+  member_first names n hosts nodes host below is s there =
+      ap (λ hs. members_lines names n hs (drop n nodes)) (from_here hosts n host (slice_get_read hosts (length hosts) n host refl below is))
+      ∙ ap (members_lines names n (host ∷ drop (n + 1) hosts)) (from_here nodes n s there)
+
   -- where a member's lines are added, those that are left go on from the next node
   pub member_added : (names : Names) (text next whole : List ℕ) (n : ℕ) (hosts : List Host) (nodes : List (Standing M)) (host : Host)
       → n < length hosts → host ≡ get_or hosts n host → n < length nodes
@@ -38,9 +46,7 @@ module _ {M : Type 0} where
             let rest = members_lines names (n + 1) (drop (n + 1) hosts) (drop (n + 1) nodes) in
             ap (λ l. l ++ rest) (added s there.2)
             ∙ append_assoc text (member_at names n host s) rest
-            ∙ ap (λ xs. text ++ members_lines names n (host ∷ drop (n + 1) hosts) xs) (sym (from_here nodes n s there.2))
-            ∙ ap (λ hs. text ++ members_lines names n hs (drop n nodes))
-            (sym (from_here hosts n host (slice_get_read hosts (length hosts) n host refl below is)))
+            ∙ sym (ap (λ l. text ++ l) (member_first names n hosts nodes host below is s there.2))
             ∙ so_far
         | inr past ↦ absurd (omega (arith, past.0, within))
       ]

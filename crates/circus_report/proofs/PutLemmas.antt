@@ -1,5 +1,5 @@
 -- What is put where a call fails.
-use Rattle.std.proofs.Common.{◌≡◌, ℕ, Option, List, ◌++◌, Result, Err, refl, sym, ap, subst, ◌∙◌}
+use Rattle.std.proofs.Common.{◌≡◌, ℕ, Option, List, ◌++◌, Result, Ok, Err, refl, sym, ap, subst, ◌∙◌}
 use Rattle.std.specs.Result.{IsErrAnd}
 use Rattle.std.proofs.lemmas.Result.{err_from_is_err_and}
 use Rattle.circus_report.specs.declared.running.RunFault.{RunFault}
@@ -8,7 +8,7 @@ use Rattle.circus_report.specs.declared.put.PutFault.{PutFault}
 use Rattle.circus_report.specs.declared.put.PutFault.TheVariants as put
 use Rattle.circus_report.specs.Writing.{Writes, WritesPart}
 use Rattle.circus_report.specs.Run.{fault_of, IsPut, IsCounted}
-use Rattle.circus_report.proofs.ToldLemmas.{WritesPart-joined}
+use Rattle.circus_report.proofs.ToldLemmas.{Writes-joined, WritesPart-joined}
 
 -- what holds of a fault holds of a call that answers it
 pub at_fault : {A : Type 0} (Holds : Result A RunFault → Type 0) (r : Result A RunFault) (f : RunFault) → IsErrAnd r (λ y. y ≡ f) → Holds (Err f) → Holds r
@@ -35,6 +35,14 @@ Rose-stopped {A} Rose r put.Memory is rose failed =
     let e = err_from_is_err_and r is in
     let clash : ◌≡◌ {A = Result A RunFault} (Err fault.NoMemory) (Err fault.SinkFailed) = sym (e.1 ∙ ap Err e.2) ∙ failed in
     absurd (cc)
+
+-- behind a text that was put, what came of another one is what comes of both
+pub IsPut-joined : {A : Type 0} (r : Result A RunFault) (front text : List ℕ) (old middle new : Option (List ℕ)) → Writes old middle front → IsPut text middle new r → IsPut (front ++ text) old new r
+IsPut-joined (Ok done) front text old middle new written put = Writes-joined old middle new front text written put
+IsPut-joined (Err fault.SinkFailed) front text old middle new written cut = WritesPart-joined old middle new front text written cut
+IsPut-joined (Err fault.NoMemory) front text old middle new written cut = WritesPart-joined old middle new front text written cut
+IsPut-joined (Err (fault.Illegal cause)) front text old middle new written cut = absurd cut
+IsPut-joined (Err (fault.Spent node peer)) front text old middle new written cut = absurd cut
 
 -- behind a text that was put, another one was put in part
 pub IsPut-behind : {A B : Type 0} (r : Result B RunFault) (s : Result A RunFault) (f : RunFault) (front text : List ℕ) (old middle new : Option (List ℕ))

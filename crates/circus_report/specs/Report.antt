@@ -46,9 +46,13 @@ module _ {M : Type 0} where
   abbrev pub ring_lines : Names → Standing M → List ℕ
   ring_lines names s = ringmaster_line names s.crashed ++ option_map_or (views_lines names) (ring_views s.node.acting) []
 
+  -- the Ringmaster of a world
+  abbrev pub ring_text : Names → WorldState M → List ℕ
+  ring_text names w = option_map_or (ring_lines names) (slice_get w.nodes 0) []
+
   -- what stands behind the datagrams
   abbrev pub rest_text : Names → WorldState M → List ℕ
-  rest_text names w = option_map_or (ring_lines names) (slice_get w.nodes 0) [] ++ members_lines names 0 w.deployment.nodes w.nodes
+  rest_text names w = ring_text names w ++ members_lines names 0 w.deployment.nodes w.nodes
 
   abbrev pub report_text : Names → WorldState M → List ℕ
   report_text names w = first_line ++ sent_lines names 0 w.sent ++ rest_text names w

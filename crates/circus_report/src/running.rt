@@ -1,15 +1,18 @@
 // A replay that writes its report as it goes.
-ghost use Rattle.std.specs.Prelude.{◌≡◌, ◌<◌, ◌≤◌, [], All, IsAscii, IfOk, OnOk, IsErrOf, length};
+ghost use Rattle.std.specs.Prelude.{◌≡◌, ◌<◌, ◌≤◌, [], All, IsAscii, IfOk, OnOk, IsErrOf, Some, length, slice_get};
 ghost use Rattle.circus_outside.specs.Faults.{Rose};
 ghost use Rattle.circus_record.specs.Naming.{host_name, names_of};
 ghost use Rattle.circus_schedule.specs.Meaning.{NamesBelow};
-ghost use Rattle.circus_report.specs.Report.{rest_text};
+ghost use Rattle.circus_world.specs.WorldState.{Standing};
+ghost use Rattle.circus_report.specs.Report.{rest_text, ring_text, member_at, members_lines};
 ghost use Rattle.circus_report.specs.Run as run;
 
 use crate::put::{PutFault, put_line, put_lines};
-use crate::{REPORT, show_rest, show_sent};
+use crate::text::{REPORT, append_member, append_ring, show_sent};
+use circus_collate::Host;
 use circus_model::Module;
 use circus_outside::Sink;
+use circus_record::{Naming, ProgramNames};
 use circus_value::{ListOf, Name, NoMemory};
 use circus_world::{Line, LineCause, World, WorldFault};
 use std::alloc::Global;
@@ -142,9 +145,10 @@ impl<M: Module> Running<M> {
             → Rose (K.faults sink.old) (K.faults sink.new) }
         ensures count { OnOk result (K.faults sink.new ≡ K.faults sink.old) }
     {
-        let rest = show_rest(alloc, &self.world, names)?;
-        put_lines(sink, rest.as_slice())?;
-        Ok(())
+        let world = &self.world;
+        let names = ProgramNames::new(world.deployment().nodes.as_slice(), names.as_slice());
+        put_ring(alloc, &names, world, sink)?;
+        put_members(alloc, &names, world, sink)
     }
 
     /// The world that it keeps. It takes no memory.
@@ -175,5 +179,67 @@ fn put_sent<M: Module, K: Sink>(
         let line = show_sent(alloc, world.deployment(), number as u64, &sent[number])?;
         put_line(sink, line.as_slice())?;
     }
+    Ok(())
+}
+
+// Puts the lines of the Ringmaster and of the views that it keeps.
+fn put_ring<M: Module, N: Naming, K: Sink>(
+    alloc: Global,
+    names: &N,
+    world: &World<M>,
+    sink: &mut K,
+) -> Result<(), RunFault>
+    ensures put { run.IsPut (ring_text (N.names names.now) world.now) (K.written sink.old)
+        (K.written sink.new) result }
+    ensures rose { IsErrOf result RunFault.SinkFailed
+        → Rose (K.faults sink.old) (K.faults sink.new) }
+    ensures count { OnOk result (K.faults sink.new ≡ K.faults sink.old) }
+{
+    let mut text = String::new(alloc);
+    append_ring(&mut text, names, world)?;
+    put_lines(sink, text.as_bytes())?;
+    Ok(())
+}
+
+// Puts the lines of the members, in the order of their nodes, one member after the other.
+fn put_members<M: Module, N: Naming, K: Sink>(
+    alloc: Global,
+    names: &N,
+    world: &World<M>,
+    sink: &mut K,
+) -> Result<(), RunFault>
+    ensures put { run.IsPut
+        (members_lines (N.names names.now) 0 world.now.deployment.nodes world.now.nodes)
+        (K.written sink.old) (K.written sink.new) result }
+    ensures rose { IsErrOf result RunFault.SinkFailed
+        → Rose (K.faults sink.old) (K.faults sink.new) }
+    ensures count { OnOk result (K.faults sink.new ≡ K.faults sink.old) }
+{
+    for (node, host) in world.deployment().nodes.as_slice().iter().enumerate() {
+        put_member(alloc, names, world, node as u16, host, sink)?;
+    }
+    Ok(())
+}
+
+// Puts the lines of the member that a node hosts, if it hosts one.
+fn put_member<M: Module, N: Naming, K: Sink>(
+    alloc: Global,
+    names: &N,
+    world: &World<M>,
+    node: u16,
+    host: &Host,
+    sink: &mut K,
+) -> Result<(), RunFault>
+    requires { node < length world.now.nodes }
+    ensures put { (s : Standing M) → slice_get world.now.nodes node ≡ Some s
+        → run.IsPut (member_at (N.names names.now) node host.now s) (K.written sink.old)
+        (K.written sink.new) result }
+    ensures rose { IsErrOf result RunFault.SinkFailed
+        → Rose (K.faults sink.old) (K.faults sink.new) }
+    ensures count { OnOk result (K.faults sink.new ≡ K.faults sink.old) }
+{
+    let mut text = String::new(alloc);
+    append_member(&mut text, names, world, node, host)?;
+    put_lines(sink, text.as_bytes())?;
     Ok(())
 }

@@ -159,6 +159,20 @@ fn append_rest<M: Module, N: Naming>(
         (string_bytes text.new
         ≡ string_bytes text.old ++ report.rest_text (N.names names.now) world.now) }
 {
+    append_ring(text, names, world)?;
+    append_members(text, names, world)
+}
+
+/// Adds the lines of the Ringmaster and of the views that it keeps.
+pub(crate) fn append_ring<M: Module, N: Naming>(
+    text: &mut String,
+    names: &N,
+    world: &World<M>,
+) -> Result<(), NoMemory>
+    ensures { OnOk result
+        (string_bytes text.new
+        ≡ string_bytes text.old ++ report.ring_text (N.names names.now) world.now) }
+{
     let views = ViewsText {
         names,
         views: world.ring_views().as_slice(),
@@ -168,7 +182,7 @@ fn append_rest<M: Module, N: Naming>(
         crashed: world.crashed(0),
     };
     write!(text, "{ringmaster}{views}")?;
-    append_members(text, names, world)
+    Ok(())
 }
 
 // Adds the lines of the members, in the order of their nodes.
@@ -187,8 +201,8 @@ fn append_members<M: Module, N: Naming>(
     Ok(())
 }
 
-// Adds the lines of the member that a node hosts, if it hosts one.
-fn append_member<M: Module, N: Naming>(
+/// Adds the lines of the member that a node hosts, if it hosts one.
+pub(crate) fn append_member<M: Module, N: Naming>(
     text: &mut String,
     names: &N,
     world: &World<M>,
