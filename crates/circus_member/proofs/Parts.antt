@@ -1,8 +1,10 @@
 -- A step so far, and what a call says where it has memory.
-use Rattle.std.proofs.Common.{◌≡◌, Ok, Err, subst, ◌∙◌}
+use Rattle.std.proofs.Common.{◌≡◌, ℕ, Ok, Err, sym, subst, ap, ◌∙◌}
 use Rattle.std.specs.Prelude.{List, Result, IfOk, OnOk}
 use Rattle.circus_member_rules.specs.declared.occurrence.Effect.{Effect}
-use Rattle.circus_member_rules.specs.MemberState.{Doing}
+use Rattle.circus_member_rules.specs.declared.occurrence.Occurrence.{Occurrence}
+use Rattle.circus_member_rules.specs.MemberState.{Doing, behind}
+use Rattle.circus_member_rules.specs.Step.{handle}
 use Rattle.circus_member.specs.declared.member_state.MemberState.{MemberState}
 use Rattle.circus_member.specs.Seen.Parts.{member_of}
 
@@ -21,3 +23,8 @@ goes_on {a = a} {b = b} done goes is on = goes ∙ subst (λ r. OnOk r (a ≡ b)
 pub all_goes_on : {A E F : Type 0} (a b : A) (r : Result A F) (done : Result (Unit {0}) E) → IfOk r (λ d. d ≡ a) → IfOk r (λ _. done ≡ Ok tt) → OnOk done (a ≡ b) → IfOk r (λ d. d ≡ b)
 all_goes_on a b (Ok d) done goes is on = goes_on done goes is on
 all_goes_on a b (Err f) done goes is on = tt
+
+-- what is handled of a step that stood in a box
+pub handled_so : {M : Type 0} (at : ℕ) (o p : Occurrence) (i d : Doing M) → o ≡ p → i ≡ d → behind i (handle at p i.member) ≡ behind d (handle at o d.member)
+handled_so {M} at o p i d is same =
+    ap (λ (x : Occurrence). behind i (handle at x i.member)) (sym is) ∙ ap (λ (x : Doing M). behind x (handle at o x.member)) same

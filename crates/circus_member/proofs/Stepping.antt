@@ -10,14 +10,18 @@ use Rattle.circus_member_rules.specs.declared.closing.Concern.{Concern}
 use Rattle.circus_member_rules.specs.declared.occurrence.AskName.{AskName}
 use Rattle.circus_member_rules.specs.declared.occurrence.Occurrence.{Occurrence}
 use Rattle.circus_member_rules.specs.MemberState.{MemberState, Doing, behind}
-use Rattle.circus_member_rules.specs.Rules.{concern_of}
-use Rattle.circus_member_rules.specs.Step.{handle, execute, closed_by, look_up, step_member}
+use Rattle.circus_member_rules.specs.Step.{handle, execute, look_up, step_member}
+use Rattle.circus_member_rules.specs.Seen.Closing.{concern_of, closed_by}
 use Rattle.circus_member_rules.specs.GoneOn.{HasGoneOn}
 use Rattle.circus_member_rules.specs.Seen.Sound.{IsSound, IsRested}
 use Rattle.circus_member_rules.proofs.Starting.{IsSoundNow, sound_executed}
 use Rattle.circus_member_rules.proofs.Resting.{rested}
 use Rattle.circus_member_rules.proofs.Unsettled.{waited_by, closed_same}
 use Rattle.circus_member_rules.proofs.Done.{executed_done, still_done}
+
+-- a member that rests is a step that has made nothing
+pub begun_so : {M : Type 0} (d : Doing M) (m : MemberState M) → d.member ≡ m → d.effects ≡ [] → d ≡ (let b : Doing M = record { member = m; effects = [] } in b)
+begun_so {M} d m member effects = λ j. let b : Doing M = record { member = member j; effects = effects j } in b
 
 module _ {M : Type 0} (declared : M → Signature) (turn : M → List ValueTree → ℕ → List ValueTree → List Outcome → NextTurn) (first : M → List ValueTree) (at : ℕ) (o : Occurrence) (m : MemberState M) where
   -- what happens is handled, goes on, and is closed

@@ -8,6 +8,7 @@ ghost use Rattle.circus_performing.specs.Record.{behaviour};
 ghost use Rattle.circus_member_rules.specs.MemberState.{behind};
 ghost use Rattle.circus_member_rules.specs.Rules as rules;
 ghost use Rattle.circus_member_rules.specs.Step as step;
+ghost use Rattle.circus_member_rules.specs.Seen.Closing.{closed_by};
 ghost use Rattle.circus_member.specs.Seen.Within as within;
 ghost use Rattle.circus_member_rules.specs.Callable.{AreViews, AllMayCall, AreReplies, AreHosts};
 ghost use Rattle.circus_member_rules.specs.Happening.{IsHome, CanHappen};
@@ -28,6 +29,7 @@ use circus_performing::{Performer, RunStart};
 use circus_transfer::{Joiner, snapshot};
 use circus_value::{Caller, Duplicate, ListOf, NoMemory, Nodes, Parts, State};
 use std::marker::Model;
+use std::mem;
 
 /// A member in a step, and what it has made so far.
 #[derive(Drop)]
@@ -49,64 +51,81 @@ impl<M: Module> Model for Doing<M> {
 }
 
 impl<M: Module> Doing<M> {
+    /// The same in a box, in which a step moves it (docs/PROOFS.md, "Speed").
+    pub fn into_box(self) -> Result<Box<Self>, NoMemory>
+        ensures { IfOk result (λ doing. doing.value ≡ self) }
+    {
+        let alloc = self.member.alloc;
+        Ok(Box::new(alloc, self)?)
+    }
+
     /// What happens is handled, and a reply that differs is told.
     pub fn handle(
-        mut self,
+        mut doing: Box<Self>,
         at: u64,
         occurrence: Occurrence,
-    ) -> Result<(Self, Option<Difference>), NoMemory>
-        requires sound { IsSound
-            (behaviour M.declared M.turn M.first self.member.performing.hosted) self.member }
-        requires can { CanHappen (M.declared self.member.performing.hosted) self.member occurrence }
+    ) -> Result<(Box<Self>, Option<Difference>), NoMemory>
+        requires sound { let m = doing.value.member in
+            IsSound (behaviour M.declared M.turn M.first m.performing.hosted) m }
+        requires can { let m = doing.value.member in
+            CanHappen (M.declared m.performing.hosted) m occurrence }
         ensures kept { IfOk result (λ done.
-            done.0 ≡ behind self (step.handle at occurrence self.member)) }
-        ensures told { IfOk result (λ done. done.1 ≡ step.difference occurrence self.member) }
+            done.0.value ≡ behind doing.value (step.handle at occurrence doing.value.member)) }
+        ensures told { IfOk result (λ done.
+            done.1 ≡ step.difference occurrence doing.value.member) }
         ensures sound { IfOk result (λ done.
-            IsSound (behaviour M.declared M.turn M.first done.0.member.performing.hosted)
-            done.0.member) }
+            IsSound (behaviour M.declared M.turn M.first done.0.value.member.performing.hosted)
+            done.0.value.member) }
     {
+        let inside = &mut *doing;
         match occurrence {
             Occurrence::Asked {
                 header,
                 body,
                 sender,
             } => {
-                let done = self.handle_call(header, body, sender);
-                Ok((self.unless_spent(done)?, None))
+                let done = inside.handle_call(header, body, sender);
+                Ok((Doing::goes_on(doing, done)?, None))
             }
             Occurrence::Fetched {
                 incarnation,
                 sender,
             } => {
-                let done = self.handle_fetch(incarnation, sender);
-                Ok((self.unless_spent(done)?, None))
+                let done = inside.handle_fetch(incarnation, sender);
+                Ok((Doing::goes_on(doing, done)?, None))
             }
-            Occurrence::Replied { name, from, reply } => self.handle_reply(name, from, reply),
+            Occurrence::Replied { name, from, reply } => {
+                let difference = inside.handle_reply(name, from, reply)?;
+                Ok((doing, difference))
+            }
             Occurrence::IsStale {
                 name,
                 server,
                 from,
                 incarnation,
             } => {
-                let done = self.handle_stale(name, server, from, incarnation);
-                Ok((self.unless_spent(done)?, None))
+                let done = inside.handle_stale(name, server, from, incarnation);
+                Ok((Doing::goes_on(doing, done)?, None))
             }
-            Occurrence::IsBefore { name, from } => Ok((self.handle_before(name, from), None)),
+            Occurrence::IsBefore { name, from } => {
+                inside.handle_before(name, from);
+                Ok((doing, None))
+            }
             Occurrence::Told { request, table } => {
-                let done = self.handle_table(request, table);
-                Ok((self.unless_spent(done)?, None))
+                let done = inside.handle_table(request, table);
+                Ok((Doing::goes_on(doing, done)?, None))
             }
-            Occurrence::Restored { state, count } => Ok((
-                self.handle_state(at, state, count)?,
-                None,
-            )),
+            Occurrence::Restored { state, count } => {
+                let restored = Box::into_inner(doing).handle_state(at, state, count)?;
+                Ok((restored.into_box()?, None))
+            }
             Occurrence::Declared(node) => {
-                let done = self.handle_down(node);
-                Ok((self.unless_spent(done)?, None))
+                let done = inside.handle_down(node);
+                Ok((Doing::goes_on(doing, done)?, None))
             }
             Occurrence::Joins => {
-                let done = self.joins();
-                Ok((self.unless_spent(done)?, None))
+                let done = inside.joins();
+                Ok((Doing::goes_on(doing, done)?, None))
             }
         }
     }
@@ -118,6 +137,15 @@ impl<M: Module> Doing<M> {
     {
         done?;
         Ok(self)
+    }
+
+    // The same in a box.
+    fn goes_on(doing: Box<Self>, done: Result<(), NoMemory>) -> Result<Box<Self>, NoMemory>
+        ensures goes { IfOk result (λ d. d.value ≡ doing.value) }
+        ensures done { IfOk result (λ _. done ≡ Ok tt) }
+    {
+        done?;
+        Ok(doing)
     }
 
     fn handle_call(
@@ -157,18 +185,17 @@ impl<M: Module> Doing<M> {
     }
 
     fn handle_reply(
-        mut self,
+        &mut self,
         name: AskName,
         from: u16,
         reply: Reply,
-    ) -> Result<(Self, Option<Difference>), NoMemory>
-        ensures kept { IfOk result (λ done.
-            done.0 ≡ behind self (step.handle_reply self.member name from reply)) }
-        ensures told { IfOk result (λ done.
-            done.1 ≡ step.difference (Occurrence.Replied name from reply) self.member) }
+    ) -> Result<Option<Difference>, NoMemory>
+        ensures kept { OnOk result
+            (self.new ≡ behind self.old (step.handle_reply self.old.member name from reply)) }
+        ensures told { IfOk result (λ told.
+            told ≡ step.difference (Occurrence.Replied name from reply) self.old.member) }
     {
-        let difference = self.member.asks.take_reply(name, from, reply)?;
-        Ok((self, difference))
+        self.member.asks.take_reply(name, from, reply)
     }
 
     fn handle_stale(
@@ -196,11 +223,10 @@ impl<M: Module> Doing<M> {
         Ok(())
     }
 
-    fn handle_before(mut self, name: AskName, from: u16) -> Self
-        ensures { result ≡ behind self (step.before self.member name from) }
+    fn handle_before(&mut self, name: AskName, from: u16)
+        ensures { self.new ≡ behind self.old (step.before self.old.member name from) }
     {
         self.member.asks.take_before(name, from);
-        self
     }
 
     // The Ringmaster answers a request.
@@ -347,30 +373,30 @@ impl<M: Module> Doing<M> {
     }
 
     /// The execution goes on as far as it can.
-    pub fn execute(self, at: u64) -> Result<Self, NoMemory>
-        requires { IsSound
-            (behaviour M.declared M.turn M.first self.member.performing.hosted) self.member }
-        ensures { IfOk result (λ d. d ≡ step.execute M.declared M.turn at self) }
+    pub fn execute(doing: Box<Self>, at: u64) -> Result<Box<Self>, NoMemory>
+        requires { let m = doing.value.member in
+            IsSound (behaviour M.declared M.turn M.first m.performing.hosted) m }
+        ensures { IfOk result (λ d. d.value ≡ step.execute M.declared M.turn at doing.value) }
     {
-        let mut doing = self.answer_open(at)?;
+        let mut doing = Doing::answer_open(doing, at)?;
         'starts: loop {
             doing.give_states()?;
             match doing.next_start()? {
-                Some(start) => doing = doing.enter(start, at)?,
+                Some(start) => doing = Box::into_inner(doing).enter(start, at)?.into_box()?,
                 None => return Ok(doing),
             }
         }
     }
 
     // The open ask is answered, if its collator gives a value, and the run goes on.
-    fn answer_open(self, at: u64) -> Result<Self, NoMemory>
-        requires { IsSound
-            (behaviour M.declared M.turn M.first self.member.performing.hosted) self.member }
-        ensures { IfOk result (λ d. d ≡ step.answered_open M.turn at self) }
+    fn answer_open(doing: Box<Self>, at: u64) -> Result<Box<Self>, NoMemory>
+        requires { let m = doing.value.member in
+            IsSound (behaviour M.declared M.turn M.first m.performing.hosted) m }
+        ensures { IfOk result (λ d. d.value ≡ step.answered_open M.turn at doing.value) }
     {
-        match self.value_of_open()? {
-            Some(reply) => self.answer(reply, at),
-            None => Ok(self),
+        match doing.value_of_open()? {
+            Some(reply) => Box::into_inner(doing).answer(reply, at)?.into_box(),
+            None => Ok(doing),
         }
     }
 
@@ -544,7 +570,7 @@ impl<M: Module> Doing<M> {
 
     /// The asks that a step concerns are closed, and the one that waited before it.
     pub fn close(&mut self, concern: Concern, waited: Option<AskName>)
-        ensures { self.new ≡ step.closed_by concern waited self.old }
+        ensures { self.new ≡ closed_by concern waited self.old }
     {
         let waits = name_of_open(&self.member.performer);
         close_by(
@@ -562,6 +588,23 @@ impl<M: Module> Doing<M> {
         ensures { OnOk result (self.new ≡ step.look_up self.old) }
     {
         look_up(self.member.alloc, &mut self.member.known, &mut self.effects)
+    }
+
+    /// The name of the ask that waits for its value.
+    pub fn waited(&self) -> Option<AskName>
+        ensures { let kept = self.now.member.performing.kept in
+            result ≡ option_map (λ _. step.name_of_last kept) (performing.open_ask kept) }
+    {
+        name_of_open(&self.member.performer)
+    }
+
+    /// What it has made, which it gives away.
+    pub fn take_effects(&mut self) -> Effects
+        ensures made { result ≡ self.old.effects }
+        ensures left { self.new ≡ record self.old { effects = [] } }
+    {
+        let none = ListOf::new(self.member.alloc);
+        mem::replace(&mut self.effects, none)
     }
 }
 

@@ -17,7 +17,6 @@ use circus_gather::Gather;
 use circus_header::CallHeader;
 use circus_member_rules::{
     AskName, Beginning, Difference, Effects, Occurrence, OpenAsks, Place, concern_of, main_start,
-    name_of_open,
 };
 use circus_model::{Module, Signature};
 use circus_performing::Performer;
@@ -28,20 +27,21 @@ use std::marker::Model;
 
 /// A member: what it knows, the calls to it, what it performs, and what it asks (docs/PROTOCOL.md, "Members").
 pub struct Member<M: Module> {
-    state: MemberState<M>,
+    // A step that has made nothing yet, in a box, so that it moves as a word (docs/PROOFS.md, "Speed").
+    doing: Box<Doing<M>>,
 }
 
 // Written out, so that dropping one is one step of a proof (docs/PROOFS.md, "Cost").
 impl<M: Module> Drop for Member<M> {
     fn drop(self) {
-        let Member { state: _ } = self;
+        let Member { doing: _ } = self;
     }
 }
 
 impl<M: Module> Model for Member<M> {
     ghost use Rattle.circus_member_rules.specs.MemberState.{MemberState};
     ghost use Rattle.circus_member.specs.Seen.StateCode.{state_code};
-    ghost use Rattle.circus_member.specs.Seen.Parts.{member_of};
+    ghost use Rattle.std.specs.Prelude.{◌≡◌, []};
     ghost use Rattle.circus_member_rules.specs.Seen.Sound.{IsRested};
     ghost use Rattle.circus_performing.specs.Record.{behaviour};
 
@@ -49,9 +49,9 @@ impl<M: Module> Model for Member<M> {
 
     ghost coded = { state_code M.code };
 
-    ghost view = { λ a. member_of a.state };
+    ghost view = { λ a. a.doing.value.member };
 
-    ghost invariant = { λ a. IsRested (behaviour M.declared M.turn M.first a.state.performer.hosted) (member_of a.state) };
+    ghost invariant = { λ a. let d = a.doing.value in IsRested (behaviour M.declared M.turn M.first d.member.performing.hosted) d.member × (d.effects ≡ []) };
 }
 
 impl<M: Module> Member<M> {
@@ -76,9 +76,9 @@ impl<M: Module> Member<M> {
         let start = main_start(alloc, place.troupe, views.as_slice())?;
         let doing = before_any(alloc, place, views, beginning, hosted)?;
         if starts {
-            Ok(Member::of(doing.enter(start, 0)?))
+            Ok(Member::of(doing.enter(start, 0)?.into_box()?))
         } else {
-            Ok(Member::of(doing))
+            Ok(Member::of(doing.into_box()?))
         }
     }
 
@@ -97,10 +97,11 @@ impl<M: Module> Member<M> {
         ensures difference { IfOk result (λ stepped. stepped.2 ≡ step.difference occurrence self) }
         ensures rest { IfOk result (λ stepped. HasGoneOn stepped.0) }
     {
-        let waited = name_of_open(&self.state.performer);
+        let Member { doing } = self;
+        let waited = doing.waited();
         let concern = concern_of(&occurrence);
-        let (doing, difference) = self.into_doing().handle(at, occurrence)?;
-        let mut doing = doing.execute(at)?;
+        let (doing, difference) = Doing::handle(doing, at, occurrence)?;
+        let mut doing = Doing::execute(doing, at)?;
         doing.close(concern, waited);
         doing.look_up()?;
         let (member, effects) = Member::of(doing);
@@ -111,14 +112,14 @@ impl<M: Module> Member<M> {
     pub fn place(&self) -> &Place
         ensures { result.now ≡ self.now.place }
     {
-        &self.state.place
+        &self.doing.member.place
     }
 
     /// What its module declares. It takes no memory.
     pub fn signature(&self) -> &Signature
         ensures { result.now ≡ M.declared self.now.performing.hosted }
     {
-        self.state.performer.signature()
+        self.doing.member.performer.signature()
     }
 
     /// What the member did. It takes no memory.
@@ -127,14 +128,14 @@ impl<M: Module> Member<M> {
         ensures kept { let p = self.now.performing in IsRecord
             (behaviour M.declared M.turn M.first p.hosted) p.began p.kept }
     {
-        self.state.performer.record()
+        self.doing.member.performer.record()
     }
 
     /// The state with which the member became active; before that, the first one of its module. It takes no memory.
     pub fn activation_state(&self) -> &State
         ensures { result.now ≡ self.now.performing.began }
     {
-        self.state.performer.activation_state()
+        self.doing.member.performer.activation_state()
     }
 
     /// What an open ask asks. It takes no memory.
@@ -142,25 +143,18 @@ impl<M: Module> Member<M> {
         ensures { option_copied result
             ≡ option_map (λ (a : Asking). a.header) (asking_of self.now.asks name) }
     {
-        Some(self.state.asks.get(name)?.header())
+        Some(self.doing.member.asks.get(name)?.header())
     }
 
-    fn into_doing(self) -> Doing<M>
-        ensures { result ≡ record { member = self; effects = [] } }
+    // The member behind a step, and what it has made.
+    fn of(mut doing: Box<Doing<M>>) -> (Self, Effects)
+        requires { let m = doing.value.member in
+            IsRested (behaviour M.declared M.turn M.first m.performing.hosted) m }
+        ensures member { result.0 ≡ doing.value.member }
+        ensures effects { result.1 ≡ doing.value.effects }
     {
-        let Member { state: member } = self;
-        let effects = ListOf::new(member.alloc);
-        Doing { member, effects }
-    }
-
-    fn of(doing: Doing<M>) -> (Self, Effects)
-        requires { IsRested
-            (behaviour M.declared M.turn M.first doing.member.performing.hosted) doing.member }
-        ensures member { result.0 ≡ doing.member }
-        ensures effects { result.1 ≡ doing.effects }
-    {
-        let Doing { member, effects } = doing;
-        (Member { state: member }, effects)
+        let effects = doing.take_effects();
+        (Member { doing }, effects)
     }
 }
 

@@ -1,7 +1,6 @@
 use Rattle.std.proofs.Common.{ap, ◌∙◌}
 use Rattle.circus_member_rules.specs.OpenAsks.{is_waiting}
-use Rattle.circus_member_rules.specs.Rules.{close_by}
-use Rattle.circus_member_rules.specs.Step.{closed_by}
+use Rattle.circus_member_rules.specs.Seen.Closing.{close_by, closed_by}
 use Rattle.circus_member.proofs.Parts.{doing_of}
 use Rattle.circus_member_rules.proofs.Unsettled.{waits_as}
 use Rattle.circus_member.proofs.doing.Doing.close.Goals as goal

@@ -9,9 +9,9 @@ use Rattle.circus_member.proofs.doing.Doing.execute.Given as goal
 -- what is left to start comes to the whole execution
 abbrev pub invariant-starts : goal.invariant-starts
 invariant-starts g l = record {
-  sound : IsSound (behaviour g.M.Module.declared g.M.Module.turn g.M.Module.first l.doing.member.performing.hosted) l.doing.member;
-  same : start_runs g.M.Module.declared g.M.Module.turn l.at (held_by l.doing) l.doing ≡ execute g.M.Module.declared g.M.Module.turn l.at l.fn.self;
+  sound : IsSound (behaviour g.M.Module.declared g.M.Module.turn g.M.Module.first l.doing.value.member.performing.hosted) l.doing.value.member;
+  same : start_runs g.M.Module.declared g.M.Module.turn l.at (held_by l.doing.value) l.doing.value ≡ execute g.M.Module.declared g.M.Module.turn l.at l.fn.doing.value;
 }
 
 abbrev pub decreases-starts : goal.decreases-starts
-decreases-starts g l = starts_left l.doing
+decreases-starts g l = starts_left l.doing.value

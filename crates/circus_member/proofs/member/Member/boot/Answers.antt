@@ -27,8 +27,8 @@ of-requires g c =
     let M = g.M.Module in
     let lawful : (hosted : g.row.M.Denot) → IsModule (behaviour M.declared M.turn M.first hosted) = λ hosted. record { first_is_state = g.met.M.Module.first_is_state hosted; turns_are_lawful = g.met.M.Module.turns_are_lawful hosted } in
     let begun : Doing g.row.M.Denot = record { member = at_boot M.declared M.turn M.first lawful c.args.place c.args.views c.args.hosted c.requires c.args.beginning; effects = [] } in
-    let is : c.in_ok-enter.field-0 ≡ enter_run_of M.turn 0 begun (main_start c.args.place.troupe c.args.views) =
-    c.in_ok-enter.ensures ∙ ap (λ d. enter_run_of M.turn 0 d c.in_ok-start.start) c.in_ok-doing.ensures ∙ ap (enter_run_of M.turn 0 begun) (c.in_ok-start.ensures ∙ ap (main_start c.args.place.troupe) c.as_slice.ensures) in
+    let is : c.in_ok-into_box.field-0.value ≡ enter_run_of M.turn 0 begun (main_start c.args.place.troupe c.args.views) =
+    c.in_ok-into_box.ensures ∙ c.in_ok-enter.ensures ∙ ap (λ d. enter_run_of M.turn 0 d c.in_ok-start.start) c.in_ok-doing.ensures ∙ ap (enter_run_of M.turn 0 begun) (c.in_ok-start.ensures ∙ ap (main_start c.args.place.troupe) c.as_slice.ensures) in
     subst (λ (d : Doing g.row.M.Denot). IsRested (behaviour M.declared M.turn M.first d.member.performing.hosted) d.member) (sym is)
     (rested_entered M.declared M.turn M.first lawful c.args.place c.args.views c.args.hosted c.requires c.args.beginning (sym c.if-starts.ensures))
 
@@ -36,22 +36,22 @@ pub of-requires-else-starts : goal.of-requires-else-starts
 of-requires-else-starts g c =
     let M = g.M.Module in
     let lawful : (hosted : g.row.M.Denot) → IsModule (behaviour M.declared M.turn M.first hosted) = λ hosted. record { first_is_state = g.met.M.Module.first_is_state hosted; turns_are_lawful = g.met.M.Module.turns_are_lawful hosted } in
-    subst (λ (d : Doing g.row.M.Denot). IsRested (behaviour M.declared M.turn M.first d.member.performing.hosted) d.member) (sym c.in_ok-doing.ensures)
+    subst (λ (d : Doing g.row.M.Denot). IsRested (behaviour M.declared M.turn M.first d.member.performing.hosted) d.member) (sym (c.in_ok-into_box-2.ensures ∙ c.in_ok-doing.ensures))
     (rested_before M.declared M.turn M.first lawful c.args.place c.args.views c.args.hosted c.requires c.args.beginning)
 
-pub returns-in_ok-enter-clause-rest : goal.returns-in_ok-enter-clause-rest
-returns-in_ok-enter-clause-rest g c =
+pub returns-in_ok-into_box-clause-rest : goal.returns-in_ok-into_box-clause-rest
+returns-in_ok-into_box-clause-rest g c =
     let M = g.M.Module in
     let lawful : (hosted : g.row.M.Denot) → IsModule (behaviour M.declared M.turn M.first hosted) = λ hosted. record { first_is_state = g.met.M.Module.first_is_state hosted; turns_are_lawful = g.met.M.Module.turns_are_lawful hosted } in
     let begun : Doing g.row.M.Denot = record { member = at_boot M.declared M.turn M.first lawful c.args.place c.args.views c.args.hosted c.requires c.args.beginning; effects = [] } in
-    let is : c.in_ok-enter.field-0 ≡ enter_run_of M.turn 0 begun (main_start c.args.place.troupe c.args.views) =
-    c.in_ok-enter.ensures ∙ ap (λ d. enter_run_of M.turn 0 d c.in_ok-start.start) c.in_ok-doing.ensures ∙ ap (enter_run_of M.turn 0 begun) (c.in_ok-start.ensures ∙ ap (main_start c.args.place.troupe) c.as_slice.ensures) in
+    let is : c.in_ok-into_box.field-0.value ≡ enter_run_of M.turn 0 begun (main_start c.args.place.troupe c.args.views) =
+    c.in_ok-into_box.ensures ∙ c.in_ok-enter.ensures ∙ ap (λ d. enter_run_of M.turn 0 d c.in_ok-start.start) c.in_ok-doing.ensures ∙ ap (enter_run_of M.turn 0 begun) (c.in_ok-start.ensures ∙ ap (main_start c.args.place.troupe) c.as_slice.ensures) in
     subst HasGoneOn (sym (c.of.ensures.member ∙ ap (λ (d : Doing g.row.M.Denot). d.member) is))
     (gone_entered M.declared M.turn M.first lawful c.args.place c.args.views c.args.hosted c.requires c.args.beginning (sym c.if-starts.ensures))
 
-pub returns-else-starts-clause-rest : goal.returns-else-starts-clause-rest
-returns-else-starts-clause-rest g c =
+pub returns-in_ok-into_box-2-clause-rest : goal.returns-in_ok-into_box-2-clause-rest
+returns-in_ok-into_box-2-clause-rest g c =
     let M = g.M.Module in
     let lawful : (hosted : g.row.M.Denot) → IsModule (behaviour M.declared M.turn M.first hosted) = λ hosted. record { first_is_state = g.met.M.Module.first_is_state hosted; turns_are_lawful = g.met.M.Module.turns_are_lawful hosted } in
-    subst HasGoneOn (sym (c.of-else-starts.ensures.member ∙ ap (λ (d : Doing g.row.M.Denot). d.member) c.in_ok-doing.ensures))
+    subst HasGoneOn (sym (c.of-else-starts.ensures.member ∙ ap (λ (d : Doing g.row.M.Denot). d.member) (c.in_ok-into_box-2.ensures ∙ c.in_ok-doing.ensures)))
     (gone_before M.declared M.turn M.first lawful c.args.place c.args.views c.args.hosted c.requires c.args.beginning)
