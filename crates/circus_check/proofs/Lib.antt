@@ -32,4 +32,4 @@ mod Tables
 mod Told
 pub mod TypedMore
 mod VariablesFound
-mod WholeModules
+pub mod WholeModules

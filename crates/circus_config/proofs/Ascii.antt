@@ -1,5 +1,5 @@
 -- What a file and its refusal name is ASCII.
-use Rattle.std.proofs.Common.{◌≡◌, ℕ, zero, suc, ◌+◌, ◌<◌, ◌⊎◌, inl, inr, Bool, true, false, cond, List, [], ◌∷◌, ◌++◌, map, take, sym, subst, Option, Some, None, Result, Ok, Err, IfOk, IfErr}
+use Rattle.std.proofs.Common.{◌≡◌, ℕ, zero, suc, ◌+◌, ◌<◌, ◌⊎◌, inl, inr, Bool, true, false, cond, List, [], ◌∷◌, ◌++◌, map, take, sym, subst, Option, Some, None, Result, Ok, Err, IfErr}
 use Rattle.std.specs.Prelude.{◌==◌, is_some, is_none, IfSome, All, IsAscii, unwrap_or, slice_get}
 use Rattle.std.specs.List.{AllByRecursion}
 use Rattle.std.proofs.lemmas.List.Elements.{All-from_recursion}
@@ -10,7 +10,7 @@ use Rattle.circus_syntax.specs.declared.stopping.Stop.{Stop}
 use Rattle.circus_syntax.specs.declared.stopping.StopCause.{StopCause}
 use Rattle.circus_syntax.specs.declared.stopping.StopCause.TheVariants.{Unexpected, TooDeep}
 use Rattle.circus_syntax.specs.InterfaceTree.{InterfaceTree}
-use Rattle.circus_syntax.specs.Spelling.{IsEach, IsGrammatical}
+use Rattle.circus_syntax.specs.Spelling.{IsEach}
 use Rattle.circus_fault.specs.declared.fault.Fault.{Fault}
 use Rattle.circus_fault.specs.Least.{is_before, faults_if, lesser, least_from}
 use Rattle.circus_fault.specs.Known.{Known, nobody, add_name}
@@ -50,7 +50,7 @@ use Rattle.circus_config.specs.Reading.{name_faults, interfaces_faults, read_fau
 use Rattle.circus_config.specs.Checking.{checked_faults}
 use Rattle.circus_config.specs.Program.{IsFile, IsProgramOf, IsAnswerTo, IsRefused}
 use Rattle.circus_text.proofs.Words.{word_ascii}
-use Rattle.circus_config.proofs.Rules.{clean_of, all_obey}
+use Rattle.circus_config.proofs.ReadIs.{file_good}
 
 -- ---- names of modules
 
@@ -255,17 +255,12 @@ interfaces_named [] obey = tt
 interfaces_named (i ∷ is) obey =
     (procedures_named i.procedures (declared_ascii (map (λ t. t.name) i.types) (map (λ e. e.name) i.errors) (map (λ p. p.name) i.procedures) obey.0.declared_named), interfaces_named is obey.1)
 
-file_obeys : (text : List ℕ) (tree : ProgramTree) (interfaces : List Interface) → IsFile text tree interfaces → AllByRecursion Obeys interfaces
-file_obeys text tree interfaces file =
-    all_obey tree.interfaces interfaces (subst (λ (t : ProgramTree). IsEach IsGrammatical t.interfaces) (sym file.stands) file.spelled.good.0)
-    (clean_of nobody 0 tree.interfaces file.faultless).each file.means
-
 checked_tells : (text : List ℕ) (tree : ProgramTree) (interfaces : List Interface) (end : ℕ) → IsFile text tree interfaces → AllByRecursion TellsAt (checked_faults interfaces tree.modules end tree.deployment)
 checked_tells text tree interfaces end file =
     let names = names_ascii text tree interfaces file in
     let lacks = of_deployment.first_without_troupe (troupe_numbers tree.deployment.troupes) tree.modules in
     appended (map (module_told interfaces tree.modules) (all interfaces tree.modules)) (map (deployment_told lacks) (deployment_faults tree.modules end tree.deployment))
-    (modules_tell interfaces tree.modules (interfaces_named interfaces (file_obeys text tree interfaces file)) names (all interfaces tree.modules))
+    (modules_tell interfaces tree.modules (interfaces_named interfaces (file_good text tree interfaces file).obey) names (all interfaces tree.modules))
     (deployments_tell lacks (without_named (troupe_numbers tree.deployment.troupes) tree.modules names) (deployment_faults tree.modules end tree.deployment))
 
 -- ---- answers
@@ -293,10 +288,6 @@ err_told text (Ok p) err = tt
 err_told text (Err e) (inl none) = subst (λ (x : ProgramFault). All IsAscii (names_told x)) (sym none) (All-from_recursion IsAscii [] tt)
 err_told text (Err e) (inr refused) = All-from_recursion IsAscii (names_told e) (refusal_told text e refused)
 
-pub ok_named : (text : List ℕ) (r : Result Plan ProgramFault) → IfOk r (IsProgramOf text) → IfOk r (λ (p : Plan). All IsAscii p.names)
-ok_named text (Ok p) is = subst (All IsAscii) (sym is.names) (All-from_recursion IsAscii (module_names is.tree.modules) (names_ascii text is.tree p.checked.interfaces is.file))
-ok_named text (Err e) is = tt
-
-pub ok_obeys : (text : List ℕ) (r : Result Plan ProgramFault) → IfOk r (IsProgramOf text) → IfOk r (λ (p : Plan). AllByRecursion Obeys p.checked.interfaces)
-ok_obeys text (Ok p) is = file_obeys text is.tree p.checked.interfaces is.file
-ok_obeys text (Err e) is = tt
+-- the names of the modules of a plan
+pub plan_named : (text : List ℕ) (plan : Plan) → IsProgramOf text plan → All IsAscii plan.names
+plan_named text plan is = subst (All IsAscii) (sym is.names) (All-from_recursion IsAscii (module_names is.tree.modules) (names_ascii text is.tree plan.checked.interfaces is.file))

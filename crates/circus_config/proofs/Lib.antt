@@ -21,3 +21,4 @@ pub mod OneAnswer
 mod Ascii
 mod Checked
 mod Named
+pub mod PlanIs

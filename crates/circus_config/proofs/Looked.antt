@@ -69,3 +69,7 @@ module _ (text : List ℕ) (interfaces : List Interface) (modules : List ModuleT
 
   pub none_looked : looked_faults interfaces modules end d ≡ [] → checked_faults interfaces modules end d ≡ []
   none_looked none = no_least rank_of (checked_faults interfaces modules end d) (sym same_least ∙ ap (least_from rank_of None) none)
+
+  -- bodies that are all without a fault
+  pub none_behind : all interfaces modules ≡ [] → faults interfaces modules ≡ []
+  none_behind none = no_least rank (faults interfaces modules) (of_modules ∙ ap (least_from rank None) none)

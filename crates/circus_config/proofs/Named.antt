@@ -1,5 +1,5 @@
 -- The names of modules that have no fault.
-use Rattle.std.proofs.Common.{◌≡◌, ℕ, suc, ◌≤◌, ◌⊎◌, inl, inr, List, [], ◌∷◌, length, map, refl, sym, ap, subst, arith}
+use Rattle.std.proofs.Common.{◌≡◌, ℕ, suc, ◌≤◌, ◌⊎◌, inl, inr, List, [], ◌∷◌, length, map, refl, ap, subst, arith}
 use Rattle.std.proofs.lemmas.List.{length-map}
 use Rattle.circus_type.specs.Distinct.{AreDistinct}
 use Rattle.circus_idl.specs.declared.interface.Interface.{Interface}
@@ -31,14 +31,11 @@ module _ (interfaces : List Interface) (modules : List ModuleTree) where
   pub few_modules : AreWellFormed interfaces (modules_meant interfaces modules 0 modules) → length modules ≤ 32
   few_modules W = omega (arith, W.few, as_many 0 modules)
 
-numbered : (f : Format) → (format_number f ≡ 1) ⊎ (format_number f ≡ 2)
+-- those that a deployment is checked over are few
+pub few_of : (interfaces : List Interface) (list slice : List ModuleText) → slice ≡ list → AreWellFormed interfaces (modules_meant interfaces (map module_of list) 0 (map module_of list)) → length slice ≤ 32
+few_of interfaces list slice same W = omega (arith, few_modules interfaces (map module_of list) W, length-map list module_of, ap length same)
+
+-- the numbers of the formats
+pub numbered : (f : Format) → (format_number f ≡ 1) ⊎ (format_number f ≡ 2)
 numbered One = inl refl
 numbered Two = inr refl
-
--- what is given of modules to whoever checks a deployment over them
-pub over_modules : {P : Type 0} (interfaces : List Interface) (list slice : List ModuleText) (n : ℕ) (f : Format) → slice ≡ list → n ≡ format_number f
-    → AreWellFormed interfaces (modules_meant interfaces (map module_of list) 0 (map module_of list))
-    → ((n ≡ 1) ⊎ (n ≡ 2) → length slice ≤ 32 → AreDistinct (map (λ (m : ModuleTree). m.name.name) (map module_of slice)) → P) → P
-over_modules interfaces list slice n f same is W next =
-    next (subst (λ k. (k ≡ 1) ⊎ (k ≡ 2)) (sym is) (numbered f)) (omega (arith, few_modules interfaces (map module_of list) W, length-map list module_of, ap length same))
-    (subst (λ l. AreDistinct (map (λ (m : ModuleTree). m.name.name) (map module_of l))) (sym same) (distinct_names interfaces (map module_of list) W))

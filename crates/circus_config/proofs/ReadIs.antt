@@ -1,6 +1,6 @@
 -- What is read of a file, accepted or refused.
 use Rattle.std.proofs.Common.{◌≡◌, ℕ, ◌≤◌, ◌⊎◌, inl, inr, List, [], ◌∷◌, length, map, refl, sym, ◌∙◌, ap, subst, arith, Option, Some, None, Result, Ok, Err, IfOk, IfErr}
-use Rattle.std.specs.Prelude.{All, IsAscii, option_map, IfNone}
+use Rattle.std.specs.Prelude.{All, option_map, IfNone}
 use Rattle.std.specs.List.{AllByRecursion}
 use Rattle.circus_text.specs.declared.token.Token.{Token}
 use Rattle.circus_text.specs.Form.{longest_text}
@@ -41,8 +41,6 @@ use Rattle.circus_check.specs.Meaning.{modules_meant}
 use Rattle.circus_check.specs.Resolved.{module_as}
 use Rattle.circus_deployment.specs.Meaning.{deployment_meant}
 use Rattle.circus_config.specs.declared.program_fault.ProgramCause.TheVariants.{Syntax, Deep}
-use Rattle.circus_check.specs.WellFormed.{AreWellFormed}
-use Rattle.circus_collate.specs.Deployment.{IsDeployment}
 use Rattle.circus_config.specs.declared.plan.Plan.{Plan}
 use Rattle.circus_config.specs.declared.program_fault.ProgramCause.{ProgramCause}
 use Rattle.circus_config.specs.declared.program_fault.ProgramFault.{ProgramFault}
@@ -54,7 +52,7 @@ use Rattle.circus_config.specs.Rank.{rank_of}
 use Rattle.circus_config.specs.Told.{module_names}
 use Rattle.circus_config.specs.Checking.{checked_faults}
 use Rattle.circus_config.specs.Reading.{interfaces_faults, read_faults}
-use Rattle.circus_config.specs.Program.{EachMeans, placed_tokens, IsFile, IsAnswerTo, IsProgramOf, IsRefused, format_number, HaveTheirRoots, IsPlan}
+use Rattle.circus_config.specs.Program.{EachMeans, placed_tokens, IsFile, IsAnswerTo, IsProgramOf, IsRefused, format_number}
 use Rattle.circus_config.proofs.Rising.{tokens_rise}
 use Rattle.circus_config.proofs.ReadOf.{read_of}
 use Rattle.circus_config.proofs.Looked.{modules_in_text, same_least, none_looked}
@@ -98,11 +96,24 @@ least_read stop given tree trees l fault same_stop same is found =
     (λ i. least_from rank_of None (read_faults (sym same_stop i) (sym same i))) ∙ sym found ∙ ap (option_map fault_of) is
 
 -- what the pass that checks may rely on
-pub record IsGood (tree : ProgramTree) (interfaces : List Interface) : Type 0 where
+pub record IsGood (text : List ℕ) (tree : ProgramTree) (interfaces : List Interface) : Type 0 where
   pub obey : AllByRecursion Obeys interfaces
   pub few : length interfaces ≤ 32
   pub read : AllByRecursion IsRead tree.modules
   pub written : IsDeploymentText tree.deployment
+  pub in_text : AreModulesOf text tree.modules
+
+-- it may of each file
+pub file_good : (text : List ℕ) (tree : ProgramTree) (interfaces : List Interface) → IsFile text tree interfaces → IsGood text tree interfaces
+file_good text tree interfaces file =
+    let rules = clean_of nobody 0 tree.interfaces file.faultless in
+    record {
+      obey = all_obey tree.interfaces interfaces (subst (λ (t : ProgramTree). IsEach IsGrammatical t.interfaces) (sym file.stands) file.spelled.good.0) rules.each file.means;
+      few = omega (arith, as_many tree.interfaces interfaces file.means, rules.few (omega arith));
+      read = subst (λ (t : ProgramTree). AllByRecursion IsRead t.modules) (sym file.stands) (all_read file.written.modules file.spelled.good.1);
+      written = subst (λ (t : ProgramTree). IsDeploymentText t.deployment) (sym file.stands) file.spelled.good.2;
+      in_text = subst (λ (t : ProgramTree). AreModulesOf text t.modules) (sym file.stands) (modules_in_text text file.found file.written file.tokens file.spelled);
+    }
 
 module _ (text : List ℕ) (found : List Token) (tree : ProgramTree) (s : Reader) (each : All (IsTokenIn text) found)
     (is : show_as program_stands_for (program most_levels (open_at (placed_tokens text found) (length text))) ≡ (tree, s)) where
@@ -153,18 +164,8 @@ module _ (text : List ℕ) (found : List Token) (tree : ProgramTree) (s : Reader
       means = C.means;
     }
 
-    pub good : IsGood tree interfaces
-    good =
-        let rules = clean_of nobody 0 tree.interfaces C.faultless in
-        record {
-          obey = all_obey tree.interfaces interfaces (subst (λ (t : ProgramTree). IsEach IsGrammatical t.interfaces) (sym stands) are.good.0) rules.each C.means;
-          few = omega (arith, as_many tree.interfaces interfaces C.means, rules.few (omega arith));
-          read = subst (λ (t : ProgramTree). AllByRecursion IsRead t.modules) (sym stands) (all_read written.modules are.good.1);
-          written = subst (λ (t : ProgramTree). IsDeploymentText t.deployment) (sym stands) are.good.2;
-        }
-
-    in_text : AreTokensOf text found → AreModulesOf text tree.modules
-    in_text tokens = subst (λ (t : ProgramTree). AreModulesOf text t.modules) (sym stands) (modules_in_text text found written tokens are)
+    pub good : length text ≤ longest_text → AreTokensOf text found → IsGood text tree interfaces
+    good short tokens = file_good text tree interfaces (file short tokens)
 
     pub ok_program : (r : Result Plan ProgramFault) → length text ≤ longest_text → AreTokensOf text found → IfOk r (λ p. looked_faults interfaces tree.modules (length text) tree.deployment ≡ [])
         → IfOk r (λ (p : Plan). p.checked.interfaces ≡ interfaces) → IfOk r (λ (p : Plan). map module_as p.checked.modules ≡ modules_meant interfaces tree.modules 0 tree.modules)
@@ -175,7 +176,7 @@ module _ (text : List ℕ) (found : List Token) (tree : ProgramTree) (s : Reader
       file = subst (IsFile text tree) (sym same) (file short tokens);
       faultless =
           ap (λ is. checked_faults is tree.modules (length text) tree.deployment) same
-          ∙ none_looked text interfaces tree.modules (length text) tree.deployment (in_text tokens) faultless;
+          ∙ none_looked text interfaces tree.modules (length text) tree.deployment (good short tokens).in_text faultless;
       modules = modules ∙ ap (λ is. modules_meant is tree.modules 0 tree.modules) (sym same);
       names = names;
       deployment = deployment;
@@ -190,16 +191,9 @@ module _ (text : List ℕ) (found : List Token) (tree : ProgramTree) (s : Reader
           tree = tree;
           interfaces = interfaces;
           file = file short tokens;
-          given = (fault, sym (same_least text interfaces tree.modules (length text) tree.deployment (in_text tokens)) ∙ least, given);
+          given = (fault, sym (same_least text interfaces tree.modules (length text) tree.deployment (good short tokens).in_text) ∙ least, given);
         }))))
 
 -- the least fault of the pass that reads, as what is kept
 pub answered : (text : List ℕ) (faults : List (Fault ProgramCause)) (x : Fault ProgramCause) (answer : ProgramFault) → least_from rank_of None faults ≡ Some x → answer ≡ Refused (line_of text x.place) x.cause → IsAnswerTo text faults answer
 answered text faults x answer least given = (x, least, given)
-
--- what is known of a plan that was read, together
-pub ok_plan : {E : Type 0} (r : Result Plan E) → IfOk r (λ (p : Plan). AllByRecursion Obeys p.checked.interfaces)
-    → IfOk r (λ (p : Plan). AreWellFormed p.checked.interfaces (map module_as p.checked.modules)) → IfOk r (λ (p : Plan). IsDeployment p.deployment)
-    → IfOk r HaveTheirRoots → IfOk r (λ (p : Plan). All IsAscii p.names) → IfOk r IsPlan
-ok_plan (Ok plan) obey well_formed deployed roots named = record { obey = obey; well_formed = well_formed; deployed = deployed; roots = roots; named = named }
-ok_plan (Err e) obey well_formed deployed roots named = tt

@@ -71,7 +71,7 @@ fault_told best new x fault fs told (inr (f, least, given)) is =
 
 -- ---- interfaces without a fault
 
-none_told : {X Y : Type 0} (f : X → Y) (xs : List X) → map f xs ≡ [] → xs ≡ []
+pub none_told : {X Y : Type 0} (f : X → Y) (xs : List X) → map f xs ≡ [] → xs ≡ []
 none_told f [] none = refl
 none_told f (x ∷ xs) none = absurd (cc)
 

@@ -3,20 +3,17 @@ ghost use Rattle.std.specs.Prelude.{◌≡◌, ◌⊎◌, ◌≤◌, [], length,
 ghost use Rattle.std.specs.List.{AllByRecursion};
 ghost use Rattle.circus_text.specs.Form.{longest_text};
 ghost use Rattle.circus_lang.specs.ModuleTree.{module_of};
-ghost use Rattle.circus_troupe.specs.DeploymentSpelling.{IsDeploymentText};
 ghost use Rattle.circus_idl.specs.Obeys.{Obeys};
 ghost use Rattle.circus_file.specs.ProgramTree.{program_of};
 ghost use Rattle.circus_check.specs.Read.{IsRead};
 ghost use Rattle.circus_check.specs.Meaning.{modules_meant};
 ghost use Rattle.circus_check.specs.Resolved.{module_as};
-ghost use Rattle.circus_check.specs.WellFormed.{AreWellFormed};
-ghost use Rattle.circus_collate.specs.Deployment.{IsDeployment};
 ghost use Rattle.circus_deployment.specs.Meaning.{deployment_meant};
 ghost use Rattle.circus_limits.specs.Limits.{most_interfaces};
 ghost use Rattle.circus_config.specs.declared.program_fault.ProgramFault.{ProgramFault};
 ghost use Rattle.circus_config.specs.Told.{module_names};
 ghost use Rattle.circus_config.specs.Seen.{looked_faults};
-ghost use Rattle.circus_config.specs.Program.{format_number, IsAnswerTo, HaveTheirRoots};
+ghost use Rattle.circus_config.specs.Program.{format_number, IsAnswerTo};
 
 use crate::least::refusal_of;
 use crate::told::{of_deployment, of_modules};
@@ -57,7 +54,6 @@ pub fn plan(
     requires obey { AllByRecursion Obeys interfaces }
     requires few { length interfaces ≤ most_interfaces }
     requires read { AllByRecursion IsRead (program_of text).modules }
-    requires written { IsDeploymentText text.deployment }
     ensures faultless { IfOk result (λ plan.
         looked_faults interfaces (program_of text).modules (length bytes.now) text.deployment
         ≡ []) }
@@ -65,14 +61,10 @@ pub fn plan(
     ensures modules { IfOk result (λ plan.
         map module_as plan.checked.modules
         ≡ modules_meant interfaces (program_of text).modules 0 (program_of text).modules) }
-    ensures well_formed { IfOk result (λ plan.
-        AreWellFormed plan.checked.interfaces (map module_as plan.checked.modules)) }
     ensures names { IfOk result (λ plan. plan.names ≡ module_names (program_of text).modules) }
     ensures deployment { IfOk result (λ plan.
         plan.deployment ≡ deployment_meant (program_of text).modules
         (format_number text.format) text.deployment) }
-    ensures obeys { IfOk result (λ plan. IsDeployment plan.deployment) }
-    ensures roots { IfOk result HaveTheirRoots }
     ensures err { IfErr result (λ e.
         (e ≡ ProgramFault.NoMemory)
         ⊎ IsAnswerTo bytes.now

@@ -9,7 +9,7 @@ ghost use Rattle.circus_config.specs.declared.plan.Plan.{Plan};
 ghost use Rattle.circus_config.specs.declared.program_fault.ProgramCause.{ProgramCause};
 ghost use Rattle.circus_config.specs.declared.program_fault.ProgramFault.{ProgramFault};
 ghost use Rattle.circus_config.specs.Rank.{rank_of};
-ghost use Rattle.circus_config.specs.Program.{IsReadOf, IsProgramOf, SaysSame, IsRefused};
+ghost use Rattle.circus_config.specs.Program.{IsReadOf, IsProgramOf, IsPlan, SaysSame, IsRefused};
 
 /// A file means one program, or is refused with one line and one cause, and not both.
 pub fn one_answer()
@@ -19,6 +19,11 @@ pub fn one_answer()
         → IsRefused text other → one ≡ other }
     ensures either { (text : List ℕ) (plan : Plan) (refusal : ProgramFault) → IsProgramOf text plan
         → IsRefused text refusal → ⊥ }
+{}
+
+/// A plan that a file means obeys its rules as a whole.
+pub fn programs_are_plans()
+    ensures { (text : List ℕ) (plan : Plan) → IsProgramOf text plan → IsPlan plan }
 {}
 
 /// Tokens are a program, or reading them stops in one place, for one cause and in one type and list, and not both; and they are

@@ -14,7 +14,7 @@ mod program_fault;
 mod read;
 mod told;
 
-pub use laws::{answer_is_least, one_answer, one_reading};
+pub use laws::{answer_is_least, one_answer, one_reading, programs_are_plans};
 pub use plan::{ModuleNames, Plan};
 pub use program_fault::{ProgramCause, ProgramFault};
 pub use read::read_program;

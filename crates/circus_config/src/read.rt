@@ -1,14 +1,11 @@
 // Reading program files.
-ghost use Rattle.std.specs.Prelude.{◌≡◌, ◌⊎◌, ◌≤◌, All, IsAscii, length, map, IfOk, IfErr};
+ghost use Rattle.std.specs.Prelude.{◌≡◌, ◌⊎◌, ◌≤◌, All, IsAscii, length, IfOk, IfErr};
 ghost use Rattle.circus_text.specs.Form.{longest_text};
 ghost use Rattle.circus_text.specs.Token.{IsTokenIn};
 ghost use Rattle.circus_text.specs.Division.{AreTokensOf};
-ghost use Rattle.circus_check.specs.Resolved.{module_as};
-ghost use Rattle.circus_check.specs.WellFormed.{AreWellFormed};
-ghost use Rattle.circus_collate.specs.Deployment.{IsDeployment};
 ghost use Rattle.circus_config.specs.declared.program_fault.ProgramFault.{ProgramFault};
 ghost use Rattle.circus_config.specs.Told.{names_told};
-ghost use Rattle.circus_config.specs.Program.{lexical_answer, IsProgramOf, IsRefused, HaveTheirRoots, IsPlan};
+ghost use Rattle.circus_config.specs.Program.{lexical_answer, IsProgramOf, IsRefused, IsPlan};
 
 use crate::checking::plan;
 use crate::interfaces::interfaces;
@@ -55,10 +52,6 @@ fn read_tokens(alloc: Global, bytes: &[u8], found: &[Token]) -> Result<Plan, Pro
     requires tokens { AreTokensOf bytes.now found.now }
     requires each { All (IsTokenIn bytes.now) found.now }
     ensures ok { IfOk result (IsProgramOf bytes.now) }
-    ensures well_formed { IfOk result (λ plan.
-        AreWellFormed plan.checked.interfaces (map module_as plan.checked.modules)) }
-    ensures deployed { IfOk result (λ plan. IsDeployment plan.deployment) }
-    ensures roots { IfOk result HaveTheirRoots }
     ensures err { IfErr result (λ e. (e ≡ ProgramFault.NoMemory) ⊎ IsRefused bytes.now e) }
 {
     let mut reader = Reader::new(alloc, bytes, found);
@@ -88,10 +81,6 @@ pub fn read_program(alloc: Global, bytes: &[u8]) -> Result<Plan, ProgramFault>
 // Reads the tokens, where the file has them.
 fn read_lexed(alloc: Global, bytes: &[u8]) -> Result<Plan, ProgramFault>
     ensures ok { IfOk result (IsProgramOf bytes.now) }
-    ensures well_formed { IfOk result (λ plan.
-        AreWellFormed plan.checked.interfaces (map module_as plan.checked.modules)) }
-    ensures deployed { IfOk result (λ plan. IsDeployment plan.deployment) }
-    ensures roots { IfOk result HaveTheirRoots }
     ensures err { IfErr result (λ e. (e ≡ ProgramFault.NoMemory) ⊎ IsRefused bytes.now e) }
 {
     match tokens_of(alloc, bytes) {

@@ -3,5 +3,5 @@ mod NodesMore
 mod Clean
 mod Hosting
 mod NumberedMore
-mod Obeying
+pub mod Obeying
 mod Checked

@@ -1,34 +1,21 @@
-use Rattle.std.proofs.Common.{◌≡◌, [], length, map, inr, sym, ◌∙◌, ap, subst, arith, Some}
-use Rattle.circus_lang.specs.ModuleTree.{ModuleTree, module_of}
-use Rattle.circus_check.specs.Meaning.{ModuleMeant}
+use Rattle.std.proofs.Common.{◌≡◌, [], length, map, inr, ◌∙◌, ap, subst, arith, Some}
+use Rattle.circus_lang.specs.ModuleTree.{module_of}
 use Rattle.circus_check.specs.Resolved.{module_as}
 use Rattle.circus_check.specs.WellFormed.{AreWellFormed}
 use Rattle.circus_deployment.specs.Faults.{deployment_faults}
 use Rattle.circus_deployment.specs.Meaning.{deployment_meant}
 use Rattle.circus_config.specs.Told.{module_names}
 use Rattle.circus_config.specs.Seen.{fault_of, modules_answer}
-use Rattle.circus_config.proofs.Named.{over_modules, roots_meant}
+use Rattle.circus_config.proofs.Named.{few_of}
 use Rattle.circus_config.proofs.Checked.{DeploymentAnswers, first_given, second_given, both_given}
 use Rattle.circus_config.proofs.checking.plan.Goals as goal
 
 pub returns-in-Ok-deployed-clause-deployment : goal.returns-in-Ok-deployed-clause-deployment
 returns-in-Ok-deployed-clause-deployment c =
     let whole = subst (λ ms. AreWellFormed c.args.interfaces ms) c.in-Ok.ensures.meant (subst (λ is. AreWellFormed is (map module_as c.in-Ok.checked.modules)) c.in-Ok.ensures.same c.in-Ok.ensures.well_formed) in
-    over_modules c.args.interfaces c.args.text.modules c.as_slice-2.result.now c.format_number.result c.args.text.format c.as_slice-2.ensures c.format_number.ensures whole
-    (λ numbered few distinct. c.in-Ok-deployed.ensures.meant (omega (arith, few)))
+    let few = few_of c.args.interfaces c.args.text.modules c.as_slice-2.result.now c.as_slice-2.ensures whole in
+    c.in-Ok-deployed.ensures.meant (omega (arith, few))
     ∙ (λ i. deployment_meant (map module_of (c.as_slice-2.ensures i)) (c.format_number.ensures i) c.args.text.deployment)
-
-pub returns-in-Ok-deployed-clause-obeys : goal.returns-in-Ok-deployed-clause-obeys
-returns-in-Ok-deployed-clause-obeys c =
-    let whole = subst (λ ms. AreWellFormed c.args.interfaces ms) c.in-Ok.ensures.meant (subst (λ is. AreWellFormed is (map module_as c.in-Ok.checked.modules)) c.in-Ok.ensures.same c.in-Ok.ensures.well_formed) in
-    over_modules c.args.interfaces c.args.text.modules c.as_slice-2.result.now c.format_number.result c.args.text.format c.as_slice-2.ensures c.format_number.ensures whole
-    (λ numbered few distinct. c.in-Ok-deployed.ensures.deployment numbered few distinct c.requires.written)
-
-pub returns-in-Ok-deployed-clause-roots : goal.returns-in-Ok-deployed-clause-roots
-returns-in-Ok-deployed-clause-roots c =
-    c.in-Ok-deployed.ensures.roots
-    ∙ ap (λ ms. map (λ (m : ModuleTree). m.root) (map module_of ms)) c.as_slice-2.ensures
-    ∙ sym (ap (map (λ (m : ModuleMeant). m.root)) c.in-Ok.ensures.meant ∙ roots_meant c.args.interfaces (map module_of c.args.text.modules) 0 (map module_of c.args.text.modules))
 
 pub returns-in-Ok-clause-err : goal.returns-in-Ok-clause-err
 returns-in-Ok-clause-err c =

@@ -20,8 +20,8 @@ is_clean c =
     clean_read c.program.new.reader.stop c.stop.result (program_of c.in_ok-text.text) (map interface_of c.as_slice.result.now) c.in_ok-least.made c.in_ok-least.least
     c.stop.ensures (ap (map interface_of) c.as_slice.ensures) c.in-None.is c.in_ok-least.ensures.found c.in_ok-least.ensures.means
 
-is_good : (c : goal.In-None) → IsGood (program_of c.in_ok-text.text) c.in_ok-least.made
-is_good c = good c.args.bytes.now c.args.found.now (program_of c.in_ok-text.text) c.program.new.reader c.requires.each (is_read c) c.in_ok-least.made (is_clean c)
+is_good : (c : goal.In-None) → IsGood c.args.bytes.now (program_of c.in_ok-text.text) c.in_ok-least.made
+is_good c = good c.args.bytes.now c.args.found.now (program_of c.in_ok-text.text) c.program.new.reader c.requires.each (is_read c) c.in_ok-least.made (is_clean c) c.requires.short c.requires.tokens
 
 pub plan-requires-clause-obey : goal.plan-requires-clause-obey
 plan-requires-clause-obey c = (is_good c).obey
@@ -31,9 +31,6 @@ plan-requires-clause-few c = (is_good c).few
 
 pub plan-requires-clause-read : goal.plan-requires-clause-read
 plan-requires-clause-read c = (is_good c).read
-
-pub plan-requires-clause-written : goal.plan-requires-clause-written
-plan-requires-clause-written c = (is_good c).written
 
 pub returns-in-Some-clause-err : goal.returns-in-Some-clause-err
 returns-in-Some-clause-err c =
