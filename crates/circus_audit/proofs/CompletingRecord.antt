@@ -23,7 +23,7 @@ use Rattle.circus_audit.specs.declared.setting.Hosted.{Hosted}
 use Rattle.circus_audit.specs.declared.stage.Stage.TheVariants.{Events, Done}
 use Rattle.circus_audit.specs.Seen.Answers.{from_some, whole}
 use Rattle.circus_audit.specs.Seen.Names.{number_of_name, name_at}
-use Rattle.circus_audit.specs.Seen.Reading.{node_names, own_read, nothing_happened, beginning, noted_by, events_by, given_by, stage_behind, hosted_by, lines_read, record_read}
+use Rattle.circus_audit.specs.Seen.Reading.{node_names, own_read, nothing_happened, beginning, noted_by, events_by, given_by, stage_behind, hosted_as, hosted_by, lines_read, record_read}
 use Rattle.circus_audit.proofs.SoundingEvents.{spelled}
 use Rattle.circus_audit.proofs.SoundingRecord.{joined, names_are}
 use Rattle.circus_audit.proofs.SoundingStages.{kept_text}
@@ -46,10 +46,6 @@ own_complete plan own names few =
     ap whole (ap (number_of_name (node_names plan)) (sym (append-nil (name_at (node_names plan) own))) ∙ named_complete (node_names plan) names own [] few refl)
 
 -- ---- events
-
--- the module of a number, and what it declares
-abbrev pub hosted_so : ℕ → Signature → Hosted
-hosted_so «module» s = record { «module» = «module»; signature = s }
 
 module _ (plan : Plan) (given : Given) (is_spelled : IsSpelled plan) where
   pub can_stand : (notes : List Noted) (events : List GivenEvent) → map (λ (n : Noted). n.given) notes ≡ events → AllByRecursion (CanHappen plan given) events → AllByRecursion (λ (n : Noted). AllByRecursion IsStray n.strays) notes → AllByRecursion (CanStand plan given.node (hosted_by plan given.node) is_spelled.nodes) notes
@@ -99,8 +95,8 @@ module _ (plan : Plan) (own : ℕ) (is_spelled : IsSpelled plan) (here : own < l
 
   member_end : (h : Happened) («module» : ℕ) (kept : MemberRecord) (s : Signature) → troupe_at plan.deployment own ≡ Some «module» → declared_by plan «module» ≡ Some s → IsMember plan s (length events) kept kept.phase → noted_by h ≡ map (noted_from plan) events → length events ≤ 2 ^ 32 → Differ (troupe_at plan.deployment own) (Some kept) → AllByRecursion HasFewAsks kept.runs → IsEndOf h (Some «module») (Some kept) None
   member_end h «module» kept s at declared is are short differ asks =
-      let host = hosted_so «module» s in
-      let hosted_is : hosted_by plan own ≡ Some host = ap (option_and_then (λ m. option_map (hosted_so m) (declared_by plan m))) at ∙ ap (option_map (hosted_so «module»)) declared in
+      let host = hosted_as plan «module» s in
+      let hosted_is : hosted_by plan own ≡ Some host = ap (option_and_then (λ m. option_map (hosted_as plan m) (declared_by plan m))) at ∙ ap (option_map (hosted_as plan «module»)) declared in
       let small = is_spelled.declared «module» s declared in
       let count : length events ≡ length (noted_by h) = sym (ap length are ∙ length-map events (noted_from plan)) in
       let read = member_read plan own host is_spelled small here (is_spelled.hosted «module» s declared) h kept (omega (arith, short, count)) (subst (λ n. IsMember plan s n kept kept.phase) count is) asks in
@@ -112,7 +108,7 @@ module _ (plan : Plan) (own : ℕ) (is_spelled : IsSpelled plan) (here : own < l
 
   ring_end : (h : Happened) (views : List View) → troupe_at plan.deployment own ≡ None → AreViews plan views → noted_by h ≡ map (noted_from plan) events → Differ (troupe_at plan.deployment own) None → IsEndOf h None None (Some views)
   ring_end h views at is are differ =
-      let hosted_is : hosted_by plan own ≡ None = ap (option_and_then (λ m. option_map (hosted_so m) (declared_by plan m))) at in
+      let hosted_is : hosted_by plan own ≡ None = ap (option_and_then (λ m. option_map (hosted_as plan m) (declared_by plan m))) at in
       record {
         read = ring_read plan own (hosted_by plan own) is_spelled h views (omega (arith, here)) at is;
         events_are = ap (λ o. events_by plan own o None (noted_by h)) hosted_is ∙ ap (events_by plan own None None) are ∙ events_apart_complete plan own is_spelled.nodes None events (subst (λ o. Differ o None) at differ);

@@ -3,7 +3,7 @@ use Rattle.std.specs.List.{AllByRecursion, list_all, list_any}
 use Rattle.std.specs.Option.{option_map_or}
 use Rattle.std.specs.Prelude.{is_some, option_and_then}
 use Rattle.std.proofs.Common.{◌≡◌, ◌∙◌, ℕ, zero, suc, ◌+◌, ◌-◌, ◌<◌, ◌≤◌, ◌⊎◌, Bool, true, false, cond, not, ◌&&◌, ◌||◌, nat_eq, nat_lt, nat_le, inl, inr, List, [], ◌∷◌, ◌++◌, length, slice_get, Option, Some, None, refl, sym, ap, subst, arith, length-append, eq-eqb, le-leb, ltb-false, find}
-use Rattle.std.proofs.lemmas.Bool.{eqb-true, leb-true, ltb-true, eqb-false}
+use Rattle.std.proofs.lemmas.Bool.{eqb-true, leb-true, leb-false, ltb-true, eqb-false}
 use Rattle.circus_model.specs.Lawful.{procedure_numbered, import_of}
 use Rattle.circus_model.specs.declared.signature.Import.{Import}
 use Rattle.circus_model.specs.declared.signature.ProcedureShape.{ProcedureShape}
@@ -21,7 +21,7 @@ use Rattle.circus_audit.specs.declared.performed.Current.TheVariants.{Nothing, R
 use Rattle.circus_audit.specs.declared.performed.Performed.{Performed}
 use Rattle.circus_audit.specs.Seen.Answers.{from_some}
 use Rattle.circus_audit.specs.Seen.Differing.{ask_named, by_procedure, by_ask, difference_read, replies_read}
-use Rattle.circus_audit.specs.Seen.Reading.{node_names}
+use Rattle.circus_audit.specs.Seen.Reading.{has_root, node_names}
 use Rattle.circus_audit.specs.Seen.Values.{procedure_of_import}
 use Rattle.circus_audit.specs.Seen.Outlook.{can_run, any_asks, may_end, may_run, names, is_within, all_within, is_asked, all_asked, is_named, all_named, may_answer, answers_if, all_answer, some_procedure, some_import, suits, may_have_ended, ended_well, rests_well, performs_well, performs, can_come}
 use Rattle.circus_audit.proofs.Opening.{from_is, only_is}
@@ -32,11 +32,11 @@ pub each_passes : {X : Type 0} (test : X → Bool) (P : X → Type 0) (xs : List
 each_passes test P [] passes all = refl
 each_passes test P (x ∷ xs) passes all = ap (λ t. t && list_all test xs) (passes x all.0) ∙ each_passes test P xs passes all.1
 
-either_left : (a b : Bool) → a ≡ true → (a || b) ≡ true
+pub either_left : (a b : Bool) → a ≡ true → (a || b) ≡ true
 either_left true b is = refl
 either_left false b is = cc
 
-either_right : (a b : Bool) → b ≡ true → (a || b) ≡ true
+pub either_right : (a b : Bool) → b ≡ true → (a || b) ≡ true
 either_right true b is = refl
 either_right false b is = is
 
@@ -129,6 +129,7 @@ module _ (plan : Plan) (own : ℕ) (s : Signature) (kept : MemberRecord) where
     pub from_in : kept.from ≤ last_count
     pub few : kept.from + length kept.runs ≤ last_count + 1
     pub runs : (i : ℕ) (run : RunRecord) → slice_get kept.runs i ≡ Some run → can_run s ≡ true
+    pub roots : (i : ℕ) (run : RunRecord) → slice_get kept.runs i ≡ Some run → has_root plan.deployment.troupes ≡ true
     pub asks : (i j : ℕ) (run : RunRecord) (ask : AskRecord) → slice_get kept.runs i ≡ Some run → slice_get run.asks j ≡ Some ask → any_asks s.imports ≡ true
 
   -- ---- how what was read so far goes on to the record, of which so many runs have ended
@@ -200,7 +201,7 @@ module _ (plan : Plan) (own : ℕ) (s : Signature) (kept : MemberRecord) where
     low_count : (p : Performed) → IsBefore p → p.from ≤ p.count
     low_count p b = let inside = known.from_in in omega (arith, inside, b.from_is, b.count_is, b.counted)
 
-    some_run : (runs : List RunRecord) → 0 < length runs → ((j : ℕ) (run : RunRecord) → slice_get runs j ≡ Some run → can_run s ≡ true) → can_run s ≡ true
+    some_run : {A : Type 0} (runs : List RunRecord) → 0 < length runs → ((j : ℕ) (run : RunRecord) → slice_get runs j ≡ Some run → A) → A
     some_run [] some all = absurd (omega (arith, some))
     some_run (run ∷ runs) some all = all 0 run refl
 
@@ -219,6 +220,14 @@ module _ (plan : Plan) (own : ℕ) (s : Signature) (kept : MemberRecord) where
         by_same : (t : Bool) → nat_eq p.from p.count ≡ t → (t || can_run s) ≡ true
         by_same true is = refl
         by_same false is = some_run kept.runs (has_runs p b (eqb-false p.from p.count is) b.ended refl b.many) known.runs
+
+    -- where runs have to be entered there is a root
+    pub enters_so : (p : Performed) → IsBefore p → (has_root plan.deployment.troupes || nat_eq p.from p.count) ≡ true
+    enters_so p b = by_same (nat_eq p.from p.count) refl
+      where
+        by_same : (t : Bool) → nat_eq p.from p.count ≡ t → (has_root plan.deployment.troupes || t) ≡ true
+        by_same true is = either_right (has_root plan.deployment.troupes) true refl
+        by_same false is = either_left (has_root plan.deployment.troupes) false (some_run kept.runs (has_runs p b (eqb-false p.from p.count is) b.ended refl b.many) known.roots)
 
     -- ---- by what is performed
 
@@ -291,8 +300,14 @@ module _ (plan : Plan) (own : ℕ) (s : Signature) (kept : MemberRecord) where
 
     -- a member goes on behind its lines
     pub performs_so : (p : Performed) → IsBefore p → performs (node_names plan) (length plan.names) own s expected p ≡ true
-    performs_so p b = by_place (nat_le (p.from + length p.runs) 4294967295) (by_current p.current b.on)
+    performs_so p b = by_place (nat_le (p.from + length p.runs) 4294967295) refl
       where
+        too_many : (r : RunRecord) (more : List RunRecord) → kept.runs ≡ p.runs ++ r ∷ more → nat_le (p.from + length p.runs) 4294967295 ≡ false → ⊥
+        too_many r more are is =
+            let few = known.few in
+            let large = leb-false (p.from + length p.runs) 4294967295 is in
+            omega (arith, few, large, b.from_is, ap length are, length-append p.runs (r ∷ more))
+
         by_current : (c : Current) → GoesOnTo b.ended p.runs c → performs_well (node_names plan) (length plan.names) own s expected p c (p.from + length p.runs) ≡ true
         by_current Nothing on = rests_so p b on.0 on.1 on.2
         by_current (Run run) on = runs_so p b on.0 on.1 on.3 on.5
@@ -301,9 +316,15 @@ module _ (plan : Plan) (own : ℕ) (s : Signature) (kept : MemberRecord) where
             let got = ap (λ xs. slice_get xs (length run.asks)) on.5 ∙ get_behind run.asks on.3 on.2 in
             all_answer_so (length p.runs) on.0 (p.from + length p.runs) (length run.asks) ask.callee ask.procedure on.2 at (ap (λ n. n + length p.runs) (sym b.from_is)) got on.6 on.7
 
-        by_place : (t : Bool) → performs_well (node_names plan) (length plan.names) own s expected p p.current (p.from + length p.runs) ≡ true → option_map_or (performs_well (node_names plan) (length plan.names) own s expected p p.current) (cond t (Some (p.from + length p.runs)) None) true ≡ true
-        by_place true good = good
-        by_place false good = refl
+        -- where no run can follow none is performed
+        by_last : (c : Current) → GoesOnTo b.ended p.runs c → nat_le (p.from + length p.runs) 4294967295 ≡ false → rests_well s expected p ≡ true
+        by_last Nothing on is = rests_so p b on.0 on.1 on.2
+        by_last (Run run) on is = absurd (too_many on.0 on.1 on.3 is)
+        by_last (Ask run ask) on is = absurd (too_many on.0 on.1 on.4 is)
+
+        by_place : (t : Bool) → nat_le (p.from + length p.runs) 4294967295 ≡ t → option_map_or (performs_well (node_names plan) (length plan.names) own s expected p p.current) (cond t (Some (p.from + length p.runs)) None) (rests_well s expected p) ≡ true
+        by_place true is = by_current p.current b.on
+        by_place false is = by_last p.current b.on is
 
     -- an ask that a line names can come
     pub can_come_so : (d : Differing) → IsTold d → can_come (node_names plan) (length plan.names) own s expected d ≡ true

@@ -2,7 +2,7 @@
 use Rattle.std.specs.List.{AllByRecursion}
 use Rattle.std.specs.Option.{option_to_list}
 use Rattle.std.specs.Prelude.{option_and_then, bytes_eq}
-use Rattle.std.proofs.Common.{◌≡◌, ◌∙◌, ℕ, ◌+◌, ◌-◌, ◌<◌, ◌^◌, Bool, true, false, cond, nat_eq, nat_le, inl, inr, List, [], ◌∷◌, ◌++◌, length, codes, Option, Some, None, option_map, refl, sym, ap, subst}
+use Rattle.std.proofs.Common.{◌≡◌, ◌∙◌, ℕ, ◌+◌, ◌-◌, ◌<◌, ◌^◌, Bool, true, false, cond, ◌&&◌, ◌||◌, nat_eq, nat_le, inl, inr, List, [], ◌∷◌, ◌++◌, length, codes, Option, Some, None, option_map, refl, sym, ap, subst}
 use Rattle.circus_collate.specs.declared.view.View.{View}
 use Rattle.circus_record.specs.declared.record.MemberRecord.{MemberRecord}
 use Rattle.circus_node.specs.Accepting.{troupe_at}
@@ -29,10 +29,10 @@ use Rattle.circus_audit.specs.Seen.Lines.{phase_read}
 use Rattle.circus_audit.specs.Seen.Performing.{performed_after}
 use Rattle.circus_audit.specs.Seen.Differing.{each_read, event_with, nothing_differs, difference_read, event_of, events_of, event_apart, events_apart}
 use Rattle.circus_audit.specs.Seen.Views.{view_read}
-use Rattle.circus_audit.specs.Seen.Outlook.{last_of, newest_by, newest, come_by, performs_by, named_by, goes_on}
-use Rattle.circus_audit.specs.Seen.Reading.{node_names, by_phase, after_line, with_views, who_read, member_if, ring_if, ring_at, noted_by, event_line_read, events_go_on, runs_go_on, views_go_on, events_by, stage_after, stage_behind}
+use Rattle.circus_audit.specs.Seen.Outlook.{last_of, newest_by, newest, can_come, may_enter, performs, come_by, performs_by, named_by, goes_on}
+use Rattle.circus_audit.specs.Seen.Reading.{has_root, node_names, by_phase, after_line, with_views, who_read, member_if, ring_if, ring_at, noted_by, event_line_read, events_go_on, runs_go_on, views_go_on, events_by, stage_after, stage_behind}
 use Rattle.circus_audit.proofs.Opening.{from_is, map_is, only_is, or_is}
-use Rattle.circus_audit.proofs.GoingOn.{get_all, IsTold, IsKnown, IsBefore, performs_so, can_come_so, named_so}
+use Rattle.circus_audit.proofs.GoingOn.{get_all, IsTold, has_ask, IsKnown, IsBefore, enters_so, performs_so, can_come_so, named_so}
 use Rattle.circus_audit.proofs.GoingBack.{AllTell, happened_back, performed_back}
 
 -- ---- what the events say of the lines of replies
@@ -221,7 +221,7 @@ module _ (plan : Plan) (own : ℕ) (hosted : Option Hosted) (member : Option Mem
 
   -- what is known of the member's record
   abbrev pub AreKnown : Option Hosted → Option MemberRecord → Type 0
-  AreKnown (Some host) (Some kept) = IsKnown plan own host.signature kept
+  AreKnown (Some host) (Some kept) = IsKnown plan own host.signature kept × (host.rooted ≡ has_root plan.deployment.troupes)
   AreKnown (Some host) None = Unit {0}
   AreKnown None kept = Unit {0}
 
@@ -229,13 +229,17 @@ module _ (plan : Plan) (own : ℕ) (hosted : Option Hosted) (member : Option Mem
   come_so o m known expected told None all = refl
   come_so None m known expected told (Some d) all = absurd (all d refl)
   come_so (Some host) None known expected told (Some d) all = absurd (all d refl)
-  come_so (Some host) (Some kept) known expected told (Some d) all = can_come_so plan own host.signature kept known expected told d (all d refl)
+  come_so (Some host) (Some kept) known expected told (Some d) all =
+      let h = has_ask plan own host.signature kept d (all d refl) in
+      let enters : host.rooted ≡ true = known.1 ∙ known.0.roots (d.run - kept.from) h.run h.is_run in
+      ap (λ t. t && can_come (node_names plan) (length plan.names) own host.signature expected d) enters
+      ∙ can_come_so plan own host.signature kept known.0 expected told d (all d refl)
 
   named_of : (o : Option Hosted) (m : Option MemberRecord) → AreKnown o m → (expected : List Differing) → AllByRecursion (IsToldOf o m) expected → named_by (node_names plan) (length plan.names) own expected m ≡ true
   named_of o None known expected told = refl
   named_of None (Some kept) known [] told = refl
   named_of None (Some kept) known (d ∷ expected) told = absurd told.0
-  named_of (Some host) (Some kept) known expected told = named_so plan own host.signature kept known expected told
+  named_of (Some host) (Some kept) known expected told = named_so plan own host.signature kept known.0 expected told
 
   runs_of : (notes : List Noted) (p : Performed) → IsBeforeRuns notes p → (o : Option Hosted) (m : Option MemberRecord) → hosted ≡ o → member ≡ m → AreKnown o m → (expected : List Differing) → AllByRecursion (IsToldOf o m) expected → performs_by (node_names plan) (length plan.names) own o expected p ≡ true
   runs_of notes p leads None m at is known expected told = refl
@@ -244,7 +248,9 @@ module _ (plan : Plan) (own : ℕ) (hosted : Option Hosted) (member : Option Mem
       let same_host : leads.host ≡ host = cc (leads.is_host, at) in
       let same_kept : leads.kept ≡ kept = cc (leads.is_kept, is) in
       let before = subst (λ (k : MemberRecord). IsBefore plan own host.signature k p) same_kept (subst (λ (h : Hosted). IsBefore plan own h.signature leads.kept p) same_host leads.before) in
-      performs_so plan own host.signature kept known expected told p before
+      let enters : may_enter host p ≡ true = ap (λ t. t || nat_eq p.from p.count) known.1 ∙ enters_so plan own host.signature kept known.0 expected told p before in
+      ap (λ t. t && performs (node_names plan) (length plan.names) own host.signature expected p) enters
+      ∙ performs_so plan own host.signature kept known.0 expected told p before
 
   -- behind each stage that leads to the record it goes on
   pub goes_so : (stage : Stage) → Leads stage → AreKnown hosted member → (expected : List Differing) → AllByRecursion Tells expected → goes_on (node_names plan) (length plan.names) own hosted expected stage ≡ true

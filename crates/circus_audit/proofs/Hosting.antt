@@ -10,7 +10,7 @@ use Rattle.circus_node.specs.Accepting.{troupe_at}
 use Rattle.circus_config.specs.declared.plan.Plan.{Plan}
 use Rattle.circus_audit.specs.Possible.{declared_by}
 use Rattle.circus_audit.specs.declared.setting.Hosted.{Hosted}
-use Rattle.circus_audit.specs.Seen.Reading.{hosted_by}
+use Rattle.circus_audit.specs.Seen.Reading.{hosted_as, hosted_by}
 
 numbers_are : (modules : List ResolvedModule) → interface_numbers (map module_as modules) ≡ map (λ (m : ResolvedModule). m.interface) modules
 numbers_are [] = refl
@@ -30,11 +30,8 @@ declared_is plan number o is =
     twice (Some m) = refl
     twice None = refl
 
-abbrev hosted_so : ℕ → Signature → Hosted
-hosted_so «module» s = record { «module» = «module»; signature = s }
+hosted_at : (plan : Plan) (own : ℕ) (t : Option ℕ) → troupe_at plan.deployment own ≡ t → hosted_by plan own ≡ option_and_then (λ «module». option_map (hosted_as plan «module») (declared_by plan «module»)) t
+hosted_at plan own t is = ap (option_and_then (λ «module». option_map (hosted_as plan «module») (declared_by plan «module»))) is
 
-hosted_at : (plan : Plan) (own : ℕ) (t : Option ℕ) → troupe_at plan.deployment own ≡ t → hosted_by plan own ≡ option_and_then (λ «module». option_map (hosted_so «module») (declared_by plan «module»)) t
-hosted_at plan own t is = ap (option_and_then (λ «module». option_map (hosted_so «module») (declared_by plan «module»))) is
-
-pub hosted_some : (plan : Plan) (own number : ℕ) (m : ResolvedModule) → troupe_at plan.deployment own ≡ Some number → slice_get plan.checked.modules number ≡ Some m → hosted_by plan own ≡ Some (record { «module» = number; signature = signature_in plan m })
-hosted_some plan own number m is found = hosted_at plan own (Some number) is ∙ ap (option_map (hosted_so number)) (declared_is plan number (Some m) found)
+pub hosted_some : (plan : Plan) (own number : ℕ) (m : ResolvedModule) → troupe_at plan.deployment own ≡ Some number → slice_get plan.checked.modules number ≡ Some m → hosted_by plan own ≡ Some (hosted_as plan number (signature_in plan m))
+hosted_some plan own number m is found = hosted_at plan own (Some number) is ∙ ap (option_map (hosted_as plan number)) (declared_is plan number (Some m) found)

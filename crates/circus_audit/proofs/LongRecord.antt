@@ -30,7 +30,7 @@ use Rattle.circus_audit.specs.declared.setting.Hosted.{Hosted}
 use Rattle.circus_audit.specs.declared.stage.Stage.{Stage}
 use Rattle.circus_audit.specs.declared.stage.Stage.TheVariants.{Events, Runs}
 use Rattle.circus_audit.specs.Seen.Names.{name_at}
-use Rattle.circus_audit.specs.Seen.Reading.{node_names, own_read, nothing_happened, beginning, noted_by, stage_behind, hosted_by}
+use Rattle.circus_audit.specs.Seen.Reading.{node_names, own_read, nothing_happened, beginning, noted_by, stage_behind, hosted_as, hosted_by}
 use Rattle.circus_audit.proofs.SoundingEvents.{spelled}
 use Rattle.circus_audit.proofs.SoundingRecord.{joined, names_are}
 use Rattle.circus_audit.proofs.SoundingStages.{kept_text}
@@ -45,7 +45,7 @@ use Rattle.circus_audit.proofs.CompletingPerforming.{begun_of, with_asks, run_re
 use Rattle.circus_audit.proofs.CompletingRuns.{HasFewAsks, runs_read}
 use Rattle.circus_audit.proofs.CompletingMembers.{active_line_of, whole_text, active_begins}
 use Rattle.circus_audit.proofs.CompletingBounds.{noted_many, asks_many}
-use Rattle.circus_audit.proofs.CompletingRecord.{can_stand, can_differ, noted_all, own_complete, hosted_so}
+use Rattle.circus_audit.proofs.CompletingRecord.{can_stand, can_differ, noted_all, own_complete}
 use Rattle.circus_audit.proofs.GoingOn.{IsTold, IsBefore}
 use Rattle.circus_audit.proofs.GoingBack.{AllTell}
 use Rattle.circus_audit.proofs.GoingStages.{Tells, IsToldOf, Leads}
@@ -140,11 +140,11 @@ module _ (plan : Plan) (own : ℕ) (is_spelled : IsSpelled plan) where
 
   pub tell_all : (events : ℕ) (troupe : Option ℕ) (member : Option MemberRecord) (views : Option (List View)) (es : List GivenEvent) → troupe_at plan.deployment own ≡ troupe → IsKept plan events troupe member views → CanDifferAll troupe member es → AllTell (IsToldOf plan own (hosted_by plan own) member (hosted_by plan own) member) (map (noted_from plan) es)
   tell_all events (Some «module») (Some kept) None es at is can =
-      let host = hosted_so «module» is.0 in
-      let hosted_is : hosted_by plan own ≡ Some host = ap (option_and_then (λ m. option_map (hosted_so m) (declared_by plan m))) at ∙ ap (option_map (hosted_so «module»)) is.1 in
+      let host = hosted_as plan «module» is.0 in
+      let hosted_is : hosted_by plan own ≡ Some host = ap (option_and_then (λ m. option_map (hosted_as plan m) (declared_by plan m))) at ∙ ap (option_map (hosted_as plan «module»)) is.1 in
       subst (λ o. AllTell (IsToldOf plan own o (Some kept) o (Some kept)) (map (noted_from plan) es)) (sym hosted_is) (events_told (Some «module») kept is.0 is.1 (is_spelled.declared «module» is.0 is.1) es can)
   tell_all events None None (Some views) es at is can =
-      let hosted_is : hosted_by plan own ≡ None = ap (option_and_then (λ m. option_map (hosted_so m) (declared_by plan m))) at in
+      let hosted_is : hosted_by plan own ≡ None = ap (option_and_then (λ m. option_map (hosted_as plan m) (declared_by plan m))) at in
       subst (λ o. AllTell (IsToldOf plan own o None o None) (map (noted_from plan) es)) (sym hosted_is) (apart_told None es can)
   tell_all events (Some «module») (Some kept) (Some views) es at is can = absurd is
   tell_all events (Some «module») None views es at is can = absurd is

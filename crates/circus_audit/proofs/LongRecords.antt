@@ -23,7 +23,7 @@ use Rattle.circus_audit.specs.declared.setting.Hosted.{Hosted}
 use Rattle.circus_audit.specs.declared.stage.Stage.{Stage}
 use Rattle.circus_audit.specs.declared.stage.Stage.TheVariants.{Events, Runs}
 use Rattle.circus_audit.specs.Seen.Names.{name_at}
-use Rattle.circus_audit.specs.Seen.Reading.{node_names, nothing_happened, beginning, noted_by, hosted_by}
+use Rattle.circus_audit.specs.Seen.Reading.{node_names, nothing_happened, beginning, noted_by, hosted_as, hosted_by}
 use Rattle.circus_audit.proofs.SoundingEvents.{spelled}
 use Rattle.circus_audit.proofs.SoundingRecord.{names_are}
 use Rattle.circus_audit.proofs.SoundingStages.{kept_text}
@@ -34,7 +34,7 @@ use Rattle.circus_audit.proofs.CompletingRows.{Reads, both_read}
 use Rattle.circus_audit.proofs.CompletingHappening.{noted_from, all_noted_read}
 use Rattle.circus_audit.proofs.CompletingPerforming.{begun_of, with_asks}
 use Rattle.circus_audit.proofs.CompletingRuns.{HasFewAsks}
-use Rattle.circus_audit.proofs.CompletingRecord.{can_stand, can_differ, noted_all, own_complete, HaveFewAsks, hosted_so, HasRows, record_rows}
+use Rattle.circus_audit.proofs.CompletingRecord.{can_stand, can_differ, noted_all, own_complete, HaveFewAsks, HasRows, record_rows}
 use Rattle.circus_audit.proofs.GoingBack.{AllTell}
 use Rattle.circus_audit.proofs.GoingStages.{Tells, Leads}
 use Rattle.circus_audit.proofs.LongRecord.{enough, HasRowsSoFar, tell_all, long_events, HasManyAsks, asks_or_many, before_is, member_so_far}
@@ -56,8 +56,8 @@ pub record IsKeptSoFar (plan : Plan) (own : ℕ) (h : Happened) (troupe : Option
 module _ (plan : Plan) (own : ℕ) (is_spelled : IsSpelled plan) (here : own < length (node_names plan)) (h : Happened) (short : length (noted_by h) < 2 ^ 64) where
   member_part : («module» : ℕ) (kept : MemberRecord) (s : Signature) (from : ℕ) → troupe_at plan.deployment own ≡ Some «module» → declared_by plan «module» ≡ Some s → kept.phase ≡ joiner.Active from → IsActive plan s (length (noted_by h)) from kept → HasManyAsks plan s (length (noted_by h)) kept → AllTell (Tells plan own (hosted_by plan own) (Some kept)) (noted_by h) → IsKeptSoFar plan own h (Some «module») (Some kept) None
   member_part «module» kept s from at declared phase is m tell =
-      let host = hosted_so «module» s in
-      let hosted_is : hosted_by plan own ≡ Some host = ap (option_and_then (λ x. option_map (hosted_so x) (declared_by plan x))) at ∙ ap (option_map (hosted_so «module»)) declared in
+      let host = hosted_as plan «module» s in
+      let hosted_is : hosted_by plan own ≡ Some host = ap (option_and_then (λ x. option_map (hosted_as plan x) (declared_by plan x))) at ∙ ap (option_map (hosted_as plan «module»)) declared in
       let small = is_spelled.declared «module» s declared in
       let there = is_spelled.hosted «module» s declared in
       let r = member_so_far plan own host is_spelled small here there h short kept from phase is m in

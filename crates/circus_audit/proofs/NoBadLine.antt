@@ -23,33 +23,41 @@ use Rattle.circus_audit.proofs.GoingStages.{Tells, AreKnown, Leads, rows_lead, n
 
 -- ---- pieces
 
-pieces_row : (row text : List ℕ) → is_clean row ≡ true → pieces (line row ++ text) ≡ whole row ∷ pieces text
-pieces_row [] text clean = refl
-pieces_row (b ∷ row) text clean =
+-- a line has no newline in it
+abbrev pub IsRow : List ℕ → Type 0
+IsRow row = AllByRecursion (λ b. nat_eq b 10 ≡ false) row
+
+pub clean_is_row : (row : List ℕ) → is_clean row ≡ true → IsRow row
+clean_is_row [] clean = tt
+clean_is_row (b ∷ row) clean =
     let parts = and_parts (nat_le 32 b) (is_clean row) clean in
     let large = leb-true 32 b parts.0 in
-    let other : nat_eq b 10 ≡ false = ne_eqb b 10 (λ e. omega (arith, large, e)) in
-    ap (λ t. if t then whole [] ∷ pieces (line row ++ text) else onto_first b (pieces (line row ++ text))) other
-    ∙ ap (onto_first b) (pieces_row row text parts.1)
+    (ne_eqb b 10 (λ e. omega (arith, large, e)), clean_is_row row parts.1)
+
+pub pieces_row : (row text : List ℕ) → IsRow row → pieces (line row ++ text) ≡ whole row ∷ pieces text
+pieces_row [] text is = refl
+pieces_row (b ∷ row) text is =
+    ap (λ t. if t then whole [] ∷ pieces (line row ++ text) else onto_first b (pieces (line row ++ text))) is.0
+    ∙ ap (onto_first b) (pieces_row row text is.1)
 
 pub pieces_joined : (rows : List (List ℕ)) (text : List ℕ) → AllByRecursion (λ row. is_clean row ≡ true) rows → pieces (joined rows ++ text) ≡ map (λ row. whole row) rows ++ pieces text
 pieces_joined [] text clean = refl
 pieces_joined (row ∷ rows) text clean =
     ap pieces (append_assoc (line row) (joined rows) text)
-    ∙ pieces_row row (joined rows ++ text) clean.0
+    ∙ pieces_row row (joined rows ++ text) (clean_is_row row clean.0)
     ∙ ap (λ ps. whole row ∷ ps) (pieces_joined rows text clean.1)
 
 -- the first line of a text, or its rest
 abbrev pub HasFirst : List ℕ → Type 0
-HasFirst text = ((row : List ℕ) × (later : List ℕ) × (text ≡ line row ++ later) × (pieces text ≡ whole row ∷ pieces later)) ⊎ (pieces text ≡ rest text ∷ [])
+HasFirst text = ((row : List ℕ) × (later : List ℕ) × (text ≡ line row ++ later) × (pieces text ≡ whole row ∷ pieces later) × IsRow row) ⊎ (pieces text ≡ rest text ∷ [])
 
 pub first_of : (text : List ℕ) → HasFirst text
 first_of [] = inr refl
 first_of (b ∷ text) = by_byte (nat_eq b 10) refl (first_of text)
   where
     by_byte : (t : Bool) → nat_eq b 10 ≡ t → HasFirst text → HasFirst (b ∷ text)
-    by_byte true is later = inl ([], text, ap (λ c. c ∷ text) (eqb-true b 10 is), ap (λ t. if t then whole [] ∷ pieces text else onto_first b (pieces text)) is)
-    by_byte false is (inl found) = inl (b ∷ found.0, found.1, ap (λ t. b ∷ t) found.2, ap (λ t. if t then whole [] ∷ pieces text else onto_first b (pieces text)) is ∙ ap (onto_first b) found.3)
+    by_byte true is later = inl ([], text, ap (λ c. c ∷ text) (eqb-true b 10 is), ap (λ t. if t then whole [] ∷ pieces text else onto_first b (pieces text)) is, tt)
+    by_byte false is (inl found) = inl (b ∷ found.0, found.1, ap (λ t. b ∷ t) found.2, ap (λ t. if t then whole [] ∷ pieces text else onto_first b (pieces text)) is ∙ ap (onto_first b) found.3, (is, found.4))
     by_byte false is (inr none) = inr (ap (λ t. if t then whole [] ∷ pieces text else onto_first b (pieces text)) is ∙ ap (onto_first b) none)
 
 -- ---- lines
@@ -58,21 +66,18 @@ onto_more : (b : ℕ) (row : List ℕ) (r : Option (List (List ℕ))) → from_s
 onto_more b row (Some ls) = refl
 onto_more b row None = refl
 
-pub lines_row : (row text : List ℕ) → is_clean row ≡ true → all_lines (line row ++ text) ≡ option_map (λ ls. row ∷ ls) (all_lines text)
-lines_row [] text clean = refl
-lines_row (b ∷ row) text clean =
-    let parts = and_parts (nat_le 32 b) (is_clean row) clean in
-    let large = leb-true 32 b parts.0 in
-    let other : nat_eq b 10 ≡ false = ne_eqb b 10 (λ e. omega (arith, large, e)) in
-    ap (λ t. cond t (option_map (λ (ls : List (List ℕ)). [] ∷ ls) (all_lines (line row ++ text))) (from_some (all_lines (line row ++ text)) (onto_line b))) other
-    ∙ ap (λ r. from_some r (onto_line b)) (lines_row row text parts.1)
+pub lines_row : (row text : List ℕ) → IsRow row → all_lines (line row ++ text) ≡ option_map (λ ls. row ∷ ls) (all_lines text)
+lines_row [] text is = refl
+lines_row (b ∷ row) text is =
+    ap (λ t. cond t (option_map (λ (ls : List (List ℕ)). [] ∷ ls) (all_lines (line row ++ text))) (from_some (all_lines (line row ++ text)) (onto_line b))) is.0
+    ∙ ap (λ r. from_some r (onto_line b)) (lines_row row text is.1)
     ∙ onto_more b row (all_lines text)
 
 module _ (plan : Plan) (own : ℕ) (hosted : Option Hosted) where
   -- a line that is read in front of the others
-  rest_behind : (stage next : Stage) (row text : List ℕ) → is_clean row ≡ true → stage_after plan own hosted stage row ≡ Some next → rest_read plan own hosted stage (line row ++ text) ≡ rest_read plan own hosted next text
-  rest_behind stage next row text clean read =
-      ap (λ r. from_some r (λ lines. from_some (stage_behind plan own hosted stage lines) (given_by plan own hosted))) (lines_row row text clean)
+  pub rest_behind : (stage next : Stage) (row text : List ℕ) → IsRow row → stage_after plan own hosted stage row ≡ Some next → rest_read plan own hosted stage (line row ++ text) ≡ rest_read plan own hosted next text
+  rest_behind stage next row text is read =
+      ap (λ r. from_some r (λ lines. from_some (stage_behind plan own hosted stage lines) (given_by plan own hosted))) (lines_row row text is)
       ∙ by_lines (all_lines text)
     where
       by_lines : (r : Option (List (List ℕ))) → from_some (option_map (λ ls. row ∷ ls) r) (λ lines. from_some (stage_behind plan own hosted stage lines) (given_by plan own hosted)) ≡ from_some r (λ lines. from_some (stage_behind plan own hosted next lines) (given_by plan own hosted))
@@ -81,7 +86,7 @@ module _ (plan : Plan) (own : ℕ) (hosted : Option Hosted) where
 
   -- ---- where a line is lost it stays lost
 
-  lost_kept : (ps : List Piece) (number : ℕ) (o : Outlook) (stage : Stage) (lost : ℕ) → o.lost ≡ Some lost → bad_among plan own hosted ps number o stage ≡ lost
+  pub lost_kept : (ps : List Piece) (number : ℕ) (o : Outlook) (stage : Stage) (lost : ℕ) → o.lost ≡ Some lost → bad_among plan own hosted ps number o stage ≡ lost
   lost_kept [] number o stage lost is = ap (line_lost number) is
   lost_kept (rest text ∷ others) number o stage lost is = ap (line_lost number) is
   lost_kept (whole text ∷ others) number o stage lost is = by_next (stage_after plan own hosted stage text) (λ next. lost_kept others (number + 1) (looks plan own hosted next number o) next lost (still next))
@@ -146,7 +151,7 @@ module _ (plan : Plan) (own : ℕ) (hosted : Option Hosted) where
             let leading = rows_lead plan own hosted member next rows last at.2 leads in
             let good = still_good next number o leading none told in
             let text_is : text ≡ line row ++ found.1 = found.2 ∙ ap (λ r. line r ++ found.1) same_row in
-            let unread_next = sym (rest_behind stage next row found.1 clean.0 at.1) ∙ ap (rest_read plan own hosted stage) (sym text_is) ∙ unread in
+            let unread_next = sym (rest_behind stage next row found.1 (clean_is_row row clean.0) at.1) ∙ ap (rest_read plan own hosted stage) (sym text_is) ∙ unread in
             let size = ap length text_is ∙ length-append (line row) found.1 in
             let fewer : length found.1 < length (joined rows) + slack = omega (arith, few, size, length-append (line row) (joined rows)) in
             let later = go_on found.1 (looks plan own hosted next number o) next at.2 good.0 good.1 others unread_next fewer in

@@ -2,7 +2,8 @@
 use Rattle.std.specs.List.{AllByRecursion}
 use Rattle.std.specs.Option.{option_map_or}
 use Rattle.std.specs.Prelude.{option_and_then}
-use Rattle.std.proofs.Common.{◌≡◌, ◌∙◌, ℕ, zero, suc, ◌+◌, ◌-◌, ◌≤◌, ◌⊎◌, true, false, nat_eq, nat_le, inl, inr, List, [], ◌∷◌, ◌++◌, length, map, take, Option, Some, None, option_map, refl, sym, ap, subst, arith, append-nil, le-leb}
+use Rattle.std.proofs.Common.{◌≡◌, ◌∙◌, ℕ, zero, suc, ◌+◌, ◌-◌, ◌≤◌, ◌⊎◌, true, false, nat_eq, nat_le, inl, inr, List, [], ◌∷◌, ◌++◌, length, map, take, slice_get, Option, Some, None, option_map, refl, sym, ap, subst, arith, append-nil, le-leb}
+use Rattle.circus_collate.specs.declared.deployment.Troupe.{Troupe}
 use Rattle.circus_collate.specs.declared.view.View.{View}
 use Rattle.circus_model.specs.Lawful.{arguments_fit, import_takes, import_of}
 use Rattle.circus_model.specs.declared.signature.Import.{Import}
@@ -27,19 +28,24 @@ use Rattle.circus_audit.specs.declared.stage.Stage.TheVariants.{Done}
 use Rattle.circus_audit.specs.Seen.Answers.{from_some}
 use Rattle.circus_audit.specs.Seen.Breaking.{all_lines}
 use Rattle.circus_audit.specs.Seen.Outlook.{can_run, has_procedures, any_asks, nothing_expected, bad_by_own, bad_in, bad_line}
-use Rattle.circus_audit.specs.Seen.Reading.{own_read, beginning, given_by, stage_behind, rest_read, hosted_by, lines_read, record_read}
+use Rattle.circus_audit.specs.Seen.Reading.{has_root, own_read, beginning, given_by, stage_behind, rest_read, hosted_as, hosted_by, lines_read, record_read}
 use Rattle.circus_audit.proofs.OneLine.{is_clean}
 use Rattle.circus_audit.proofs.SoundingRecord.{joined}
-use Rattle.circus_audit.proofs.CompletingRecord.{HasRows, hosted_so}
-use Rattle.circus_audit.proofs.GoingOn.{get_all, IsKnown, one_passes}
+use Rattle.circus_audit.proofs.CompletingRecord.{HasRows}
+use Rattle.circus_audit.proofs.GoingOn.{either_left, either_right, get_all, IsKnown, one_passes}
 use Rattle.circus_audit.proofs.GoingStages.{AreKnown, Leads, all_tell}
-use Rattle.circus_audit.proofs.NoBadLine.{HasFirst, first_of, pieces_joined, lines_row, bad_from, none_among, none_behind}
+use Rattle.circus_audit.proofs.NoBadLine.{IsRow, clean_is_row, HasFirst, first_of, pieces_joined, lines_row, bad_from, none_among, none_behind}
 
 -- ---- what is known of a record that may stand
 
-some_procedure : (ps : List ProcedureShape) (number : ℕ) (arguments : List ValueTree) → arguments_fit ps number arguments ≡ true → nat_le 1 (length ps) ≡ true
+pub some_procedure : (ps : List ProcedureShape) (number : ℕ) (arguments : List ValueTree) → arguments_fit ps number arguments ≡ true → nat_le 1 (length ps) ≡ true
 some_procedure [] number arguments takes = cc
 some_procedure (p ∷ ps) number arguments takes = le-leb 1 (length (p ∷ ps)) (omega arith)
+
+pub one_root : (troupes : List Troupe) (root : ℕ) → option_map_or (λ (t : Troupe). t.root) (slice_get troupes root) false ≡ true → has_root troupes ≡ true
+one_root [] root is = cc
+one_root (t ∷ troupes) zero is = either_left t.root (has_root troupes) is
+one_root (t ∷ troupes) (suc root) is = either_right t.root (has_root troupes) (one_root troupes root is)
 
 some_import : (imports : List Import) (callee number : ℕ) (arguments : List ValueTree) → import_takes imports callee number arguments ≡ true → any_asks imports ≡ true
 some_import imports callee number arguments takes = by_import (import_of callee imports) refl takes
@@ -53,12 +59,12 @@ module _ (plan : Plan) (own : ℕ) (s : Signature) (events : ℕ) (kept : Member
   answered_asks [] all = tt
   answered_asks (a ∷ asks) all = (some_import s.imports a.callee a.procedure a.arguments all.0.made.takes, answered_asks asks all.1)
 
-  -- a run of a procedure, whose asks go to imports
+  -- a run of a procedure that a root entered, whose asks go to imports
   abbrev IsRunKnown : RunRecord → Type 0
-  IsRunKnown run = (can_run s ≡ true) × AllByRecursion (λ (a : AskRecord). any_asks s.imports ≡ true) run.asks
+  IsRunKnown run = ((can_run s ≡ true) × (has_root plan.deployment.troupes ≡ true)) × AllByRecursion (λ (a : AskRecord). any_asks s.imports ≡ true) run.asks
 
-  started_known : (run : RunRecord) → IsStarted plan s events run → can_run s ≡ true
-  started_known run is = some_procedure s.procedures run.procedure run.arguments is.takes
+  started_known : (run : RunRecord) → IsStarted plan s events run → (can_run s ≡ true) × (has_root plan.deployment.troupes ≡ true)
+  started_known run is = (some_procedure s.procedures run.procedure run.arguments is.takes, one_root plan.deployment.troupes run.root is.root)
 
   ended_known : (runs : List RunRecord) → AllByRecursion (IsEnded plan s events) runs → AllByRecursion IsRunKnown runs
   ended_known [] all = tt
@@ -78,7 +84,8 @@ module _ (plan : Plan) (own : ℕ) (s : Signature) (events : ℕ) (kept : Member
   known_by from few all = record {
     from_in = from;
     few = few;
-    runs = λ i run at. (get_all IsRunKnown kept.runs i run all at).0;
+    runs = λ i run at. (get_all IsRunKnown kept.runs i run all at).0.0;
+    roots = λ i run at. (get_all IsRunKnown kept.runs i run all at).0.1;
     asks = λ i j run ask at got. get_all (λ (a : AskRecord). any_asks s.imports ≡ true) run.asks j ask (get_all IsRunKnown kept.runs i run all at).1 got;
   }
 
@@ -103,10 +110,10 @@ module _ (plan : Plan) (own : ℕ) (s : Signature) (events : ℕ) (kept : Member
 
 pub kept_known : (plan : Plan) (own events : ℕ) (troupe : Option ℕ) (member : Option MemberRecord) (views : Option (List View)) → troupe_at plan.deployment own ≡ troupe → IsKept plan events troupe member views → AreKnown plan own (hosted_by plan own) member (hosted_by plan own) member
 kept_known plan own events (Some «module») (Some kept) None at is =
-    let hosted_is : hosted_by plan own ≡ Some (hosted_so «module» is.0) = ap (option_and_then (λ m. option_map (hosted_so m) (declared_by plan m))) at ∙ ap (option_map (hosted_so «module»)) is.1 in
-    subst (λ o. AreKnown plan own o (Some kept) o (Some kept)) (sym hosted_is) (member_known plan own is.0 events kept kept.phase is.2)
+    let hosted_is : hosted_by plan own ≡ Some (hosted_as plan «module» is.0) = ap (option_and_then (λ m. option_map (hosted_as plan m) (declared_by plan m))) at ∙ ap (option_map (hosted_as plan «module»)) is.1 in
+    subst (λ o. AreKnown plan own o (Some kept) o (Some kept)) (sym hosted_is) (member_known plan own is.0 events kept kept.phase is.2, refl)
 kept_known plan own events None None (Some views) at is =
-    let hosted_is : hosted_by plan own ≡ None = ap (option_and_then (λ m. option_map (hosted_so m) (declared_by plan m))) at in
+    let hosted_is : hosted_by plan own ≡ None = ap (option_and_then (λ m. option_map (hosted_as plan m) (declared_by plan m))) at in
     subst (λ o. AreKnown plan own o None o None) (sym hosted_is) tt
 kept_known plan own events (Some «module») (Some kept) (Some views) at is = absurd is
 kept_known plan own events (Some «module») None views at is = absurd is
@@ -116,9 +123,9 @@ kept_known plan own events None None None at is = absurd is
 -- ---- the first line
 
 -- a record behind its first line
-pub first_read : (plan : Plan) (first text : List ℕ) (own : ℕ) → is_clean first ≡ true → own_read plan first ≡ Some own → record_read plan (line first ++ text) ≡ rest_read plan own (hosted_by plan own) beginning text
-first_read plan first text own clean is =
-    ap (λ r. from_some r (lines_read plan)) (lines_row first text clean) ∙ by_lines (all_lines text)
+pub first_read : (plan : Plan) (first text : List ℕ) (own : ℕ) → IsRow first → own_read plan first ≡ Some own → record_read plan (line first ++ text) ≡ rest_read plan own (hosted_by plan own) beginning text
+first_read plan first text own row is =
+    ap (λ r. from_some r (lines_read plan)) (lines_row first text row) ∙ by_lines (all_lines text)
   where
     by_lines : (r : Option (List (List ℕ))) → from_some (option_map (λ ls. first ∷ ls) r) (lines_read plan) ≡ from_some r (λ ls. from_some (stage_behind plan own (hosted_by plan own) beginning ls) (given_by plan own (hosted_by plan own)))
     by_lines (Some ls) = ap (λ o. from_some o (λ n. from_some (stage_behind plan n (hosted_by plan n) beginning ls) (given_by plan n (hosted_by plan n)))) is
@@ -156,7 +163,7 @@ none_has plan given text other (suc k) is r unread at same = by_piece (first_of 
         let few_notes = r.few in
         let leads : Leads plan own hosted given.member last = record { is_kept = refl; tell = tell; short = omega (arith, few_notes) } in
         let text_is : text ≡ line r.first ++ found.1 = found.2 ∙ ap (λ f. line f ++ found.1) (sym same_first) in
-        let behind = sym (first_read plan r.first found.1 own r.clean.0 r.own_is) ∙ ap (record_read plan) (sym text_is) ∙ unread in
+        let behind = sym (first_read plan r.first found.1 own (clean_is_row r.first r.clean.0) r.own_is) ∙ ap (record_read plan) (sym text_is) ∙ unread in
         let given_last = ap (option_map (λ (events : List GivenEvent). record { node = own; events = events; member = given.member; views = given.views })) r.events_are in
         let slack = length found.1 + 1 in
         let all = none_among plan own hosted given.member known last leads r.rows k found.1 2 nothing_expected beginning (rest [] ∷ []) slack r.clean.1 r.reach refl tt (sym others) behind (omega arith) (none_behind plan own hosted given.member known last leads given slack given_last) in

@@ -11,7 +11,7 @@ use Rattle.circus_audit.specs.Seen.Reading.{own_read, beginning, hosted_by, reco
 use Rattle.circus_audit.proofs.SoundingRecord.{joined}
 use Rattle.circus_audit.proofs.CompletingPlans.{IsSpelled}
 use Rattle.circus_audit.proofs.CompletingRecord.{HasRows}
-use Rattle.circus_audit.proofs.NoBadLine.{HasFirst, first_of, pieces_joined, none_among}
+use Rattle.circus_audit.proofs.NoBadLine.{clean_is_row, HasFirst, first_of, pieces_joined, none_among}
 use Rattle.circus_audit.proofs.NoRecord.{kept_known, first_read, one_at_least, none_has}
 use Rattle.circus_audit.proofs.LongRecord.{enough, HasRowsSoFar}
 use Rattle.circus_audit.proofs.LongRecords.{whole_or_part}
@@ -33,7 +33,7 @@ none_has_part plan given text other (suc k) is r short unread at same = by_piece
         let hosted = hosted_by plan own in
         let known = kept_known plan own (length given.events) (troupe_at plan.deployment own) given.member given.views refl is.possible.kept in
         let text_is : text ≡ line r.first ++ found.1 = found.2 ∙ ap (λ f. line f ++ found.1) (sym same_first) in
-        let behind = sym (first_read plan r.first found.1 own r.clean.0 r.own_is) ∙ ap (record_read plan) (sym text_is) ∙ unread in
+        let behind = sym (first_read plan r.first found.1 own (clean_is_row r.first r.clean.0) r.own_is) ∙ ap (record_read plan) (sym text_is) ∙ unread in
         let large = r.large in
         let fewer : length found.1 < length (joined r.rows) + 0 = omega (arith, short, large, ap length text_is, length-append (line r.first) found.1) in
         let all = none_among plan own hosted given.member known r.last r.leads r.rows k found.1 2 nothing_expected beginning (pieces r.more) 0 r.clean.1 r.reach refl tt (sym others) behind fewer (λ j t number o none alike open_end less. absurd (omega (arith, less))) in

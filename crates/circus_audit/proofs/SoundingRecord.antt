@@ -30,7 +30,7 @@ use Rattle.circus_audit.specs.Seen.Differing.{event_of, event_apart}
 use Rattle.circus_audit.specs.Seen.Read.{IsRead}
 use Rattle.circus_audit.specs.declared.fault.RecordFault.{RecordFault}
 use Rattle.circus_audit.specs.declared.fault.RecordFault.TheVariants.{BadLine, NoMemory}
-use Rattle.circus_audit.specs.Seen.Reading.{node_names, own_read, beginning, events_by, stage_after, given_by, stage_behind, hosted_by, lines_read, record_read}
+use Rattle.circus_audit.specs.Seen.Reading.{node_names, own_read, beginning, events_by, stage_after, given_by, stage_behind, hosted_as, hosted_by, lines_read, record_read}
 use Rattle.circus_audit.proofs.Opening.{from_is, map_is}
 use Rattle.circus_audit.proofs.Sounding.{whole_some}
 use Rattle.circus_audit.proofs.SoundingMember.{named_sound}
@@ -85,18 +85,15 @@ lines_join (b ∷ text) rows is = by_byte (nat_eq b 10) refl (lines_join text) i
 
 -- ---- whom a node hosts
 
-chosen : {A B : Type 0} (f : A → Option B) (o : Option A) (b : B) → option_and_then f o ≡ Some b → (a : A) × (o ≡ Some a) × (f a ≡ Some b)
+pub chosen : {A B : Type 0} (f : A → Option B) (o : Option A) (b : B) → option_and_then f o ≡ Some b → (a : A) × (o ≡ Some a) × (f a ≡ Some b)
 chosen f (Some a) b is = (a, refl, is)
 chosen f None b is = cc
-
-abbrev hosted_so : ℕ → Signature → Hosted
-hosted_so «module» s = record { «module» = «module»; signature = s }
 
 pub hosting : (plan : Plan) (own : ℕ) (o : Option Hosted) → hosted_by plan own ≡ o → Hosting plan own (hosted_by plan own) o
 hosting plan own None is = tt
 hosting plan own (Some host) is =
-    let x = chosen (λ «module». option_map (hosted_so «module») (declared_by plan «module»)) (troupe_at plan.deployment own) host is in
-    let y = map_is (hosted_so x.0) (declared_by plan x.0) host x.2 in
+    let x = chosen (λ «module». option_map (hosted_as plan «module») (declared_by plan «module»)) (troupe_at plan.deployment own) host is in
+    let y = map_is (hosted_as plan x.0) (declared_by plan x.0) host x.2 in
     record {
       is_hosted = is;
       troupe = x.1 ∙ ap (λ (h : Hosted). Some h.«module») y.2;
@@ -155,7 +152,7 @@ module _ (plan : Plan) (own : ℕ) where
       let next = stage_sound plan own (hosted_by plan own) stage row text x.0 (hosting plan own (hosted_by plan own) refl) x.1 stands in
       subst (IsStage plan own (hosted_by plan own) last) (append_assoc text (line row) (joined rows)) (lines_sound x.0 last rows (text ++ line row) x.2 next)
 
-  begins : IsStage plan own (hosted_by plan own) beginning []
+  pub begins : IsStage plan own (hosted_by plan own) beginning []
   begins = record {
     front = [];
     earlier = record { heard = []; are = refl; each = tt; few = omega arith; text_is = refl };
@@ -164,7 +161,7 @@ module _ (plan : Plan) (own : ℕ) where
     text_is = refl;
   }
 
-own_sound : (plan : Plan) (row : List ℕ) (own : ℕ) → own_read plan row ≡ Some own → (row ≡ codes "circus node 1 " ++ name_at (node_names plan) own) × (own < length (node_names plan))
+pub own_sound : (plan : Plan) (row : List ℕ) (own : ℕ) → own_read plan row ≡ Some own → (row ≡ codes "circus node 1 " ++ name_at (node_names plan) own) × (own < length (node_names plan))
 own_sound plan row own is =
     let w = whole_some (behind (behind_prefix (codes "circus node 1 ") row) (number_of_name (node_names plan))) own is in
     let x = behind_some (behind_prefix (codes "circus node 1 ") row) (number_of_name (node_names plan)) (own, w.0) w.1 in

@@ -158,6 +158,13 @@ fn rests_well(signature: &Signature, expected: &[Differing], performed: &Perform
     }
 }
 
+// Runs can be entered, or none has to be.
+fn may_enter(hosted: &Hosted, performed: &Performed) -> bool
+    ensures { result ≡ outlook.may_enter hosted.now performed.now }
+{
+    hosted.rooted || performed.from == performed.count
+}
+
 // The line of replies that was read last.
 fn newest(happened: &Happened) -> Option<&Differing>
     ensures { option_copied result ≡ outlook.newest_by happened.now.kind happened.now.last }
@@ -315,7 +322,7 @@ impl ReplyReader<'_> {
             signature.now expected.now performed.now) }
     {
         let Some(run) = place_behind(performed.from, performed.runs.len()) else {
-            return Ok(true);
+            return Ok(rests_well(signature, expected, performed));
         };
         match &performed.current {
             Current::Nothing => Ok(rests_well(signature, expected, performed)),
@@ -345,11 +352,16 @@ impl ReplyReader<'_> {
         match stage {
             Stage::Events(happened) => match (newest(happened), hosted) {
                 (None, _) => Ok(true),
-                (Some(_), None) => Ok(false),
-                (Some(each), Some(hosted)) => self.can_come(&hosted.signature, expected, each),
+                (Some(each), Some(hosted)) if hosted.rooted => {
+                    self.can_come(&hosted.signature, expected, each)
+                }
+                (Some(_), _) => Ok(false),
             },
             Stage::Runs(_, performed) => match hosted {
-                Some(hosted) => self.performs(&hosted.signature, expected, performed),
+                Some(hosted) if may_enter(hosted, performed) => {
+                    self.performs(&hosted.signature, expected, performed)
+                }
+                Some(_) => Ok(false),
                 None => Ok(true),
             },
             Stage::Watching(_, _) => Ok(true),

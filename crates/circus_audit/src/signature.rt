@@ -3,11 +3,24 @@ ghost use Rattle.std.specs.Prelude.{◌≡◌, IfOk};
 ghost use Rattle.circus_audit.specs.Seen.Reading as reading;
 
 use crate::setting::Hosted;
+use circus_collate::Deployment;
 use circus_config::Plan;
 use circus_modules::{interface_numbers, signature_of};
 use circus_node::troupe_at;
 use circus_value::NoMemory;
 use std::alloc::Global;
+
+// Some module is a root.
+fn has_root(deployment: &Deployment) -> bool
+    ensures { result ≡ reading.has_root deployment.now.troupes }
+{
+    for troupe in deployment.troupes.as_slice() {
+        if troupe.root {
+            return true;
+        }
+    }
+    false
+}
 
 /// The module of the member that a node hosts, and what it declares. `None` where the node hosts none.
 pub(crate) fn hosted_by(alloc: Global, plan: &Plan, own: u16) -> Result<Option<Hosted>, NoMemory>
@@ -31,5 +44,6 @@ pub(crate) fn hosted_by(alloc: Global, plan: &Plan, own: u16) -> Result<Option<H
     Ok(Some(Hosted {
         module: number,
         signature,
+        rooted: has_root(&plan.deployment),
     }))
 }

@@ -1,22 +1,28 @@
 // Records with lines that are changed.
-use crate::texts::{APART, CLIENT, ENDED, PROGRAM, RING, SERVER};
+use crate::texts::{
+    APART, CLIENT, ENDED, LAST, PROGRAM, RELAY, RELAY_ENDED, RELAY_TOLD, RING, ROOTLESS, SERVER,
+};
 use circus_audit::{RecordFault, read_record};
 use circus_config::read_program;
 use circus_value::Octets;
 use std::alloc::Global;
 use std::test::Fail;
 
-// The first bad line of a text as a record of the program, or 0 where it is one.
-fn bad_line(alloc: Global, text: &[u8]) -> Result<u32, Fail> {
+// The first bad line of a text as a record of a program, or 0 where it is one.
+fn bad_line_of(alloc: Global, program: &str, text: &[u8]) -> Result<u32, Fail> {
     if text.len() >= u32::MAX as usize {
         return Ok(u32::MAX);
     }
-    let plan = read_program(alloc, PROGRAM.as_bytes())?;
+    let plan = read_program(alloc, program.as_bytes())?;
     match read_record(alloc, text, &plan) {
         Ok(_) => Ok(0),
         Err(RecordFault::BadLine(line)) => Ok(line),
         Err(RecordFault::NoMemory) => Ok(u32::MAX),
     }
+}
+
+fn bad_line(alloc: Global, text: &[u8]) -> Result<u32, Fail> {
+    bad_line_of(alloc, PROGRAM, text)
 }
 
 // The place behind so many lines of a text.
@@ -293,6 +299,33 @@ fn differences_are_read(rt: HostRuntime) -> Result<(), Fail> {
     assert_eq!(rt; change_lines(alloc, CLIENT, 4, 0, second)?, 8);
     assert_eq!(rt; change_lines(alloc, SERVER, 4, 0, other)?, 4);
     assert_eq!(rt; change_lines(alloc, ENDED, 5, 0, "foreign 1 00\n")?, 6);
+    Ok(())
+}
+
+#[test]
+fn last_runs_are_read(rt: HostRuntime) -> Result<(), Fail> {
+    let alloc = rt.alloc();
+    assert_eq!(rt; bad_line(alloc, LAST.as_bytes())?, 0);
+    assert_eq!(rt; change_lines(alloc, LAST, 6, 2, "")?, 6);
+    assert_eq!(rt;
+        change_lines(
+            alloc,
+            LAST,
+            9,
+            1,
+            "run 4294967296 step 0 path Main procedure 0 clock 0,0 arguments []\n"
+        )?,
+        9
+    );
+    Ok(())
+}
+
+#[test]
+fn runs_have_roots(rt: HostRuntime) -> Result<(), Fail> {
+    let alloc = rt.alloc();
+    assert_eq!(rt; bad_line_of(alloc, ROOTLESS, RELAY.as_bytes())?, 0);
+    assert_eq!(rt; bad_line_of(alloc, ROOTLESS, RELAY_ENDED.as_bytes())?, 3);
+    assert_eq!(rt; bad_line_of(alloc, ROOTLESS, RELAY_TOLD.as_bytes())?, 3);
     Ok(())
 }
 

@@ -120,6 +120,10 @@ ended_well expected p run = option_map_or (may_have_ended expected p run) (place
 abbrev pub rests_well : Signature → List Differing → Performed → Bool
 rests_well s expected p = option_map_or (ended_well expected p) (slice_get p.runs (length p.runs - 1)) (suits s expected p)
 
+-- runs can be entered, or none has to be
+abbrev pub may_enter : Hosted → Performed → Bool
+may_enter host p = host.rooted || (p.from == p.count)
+
 module _ (nodes : List (List ℕ)) (modules own : ℕ) where
   abbrev pub performs_well : Signature → List Differing → Performed → Current → ℕ → Bool
   performs_well s expected p Nothing place = rests_well s expected p
@@ -127,7 +131,7 @@ module _ (nodes : List (List ℕ)) (modules own : ℕ) where
   performs_well s expected p (Ask run ask) place = all_answer nodes modules own s.imports expected place (length run.asks) ask.callee ask.procedure
 
   abbrev pub performs : Signature → List Differing → Performed → Bool
-  performs s expected p = option_map_or (performs_well s expected p p.current) (place_behind p.from (length p.runs)) true
+  performs s expected p = option_map_or (performs_well s expected p p.current) (place_behind p.from (length p.runs)) (rests_well s expected p)
 
   -- an ask that a line of replies names can come, and be answered as the lines say
   abbrev pub can_come : Signature → List Differing → Differing → Bool
@@ -136,11 +140,11 @@ module _ (nodes : List (List ℕ)) (modules own : ℕ) where
   abbrev pub come_by : Option Hosted → List Differing → Option Differing → Bool
   come_by hosted expected None = true
   come_by None expected (Some d) = false
-  come_by (Some host) expected (Some d) = can_come host.signature expected d
+  come_by (Some host) expected (Some d) = host.rooted && can_come host.signature expected d
 
   abbrev pub performs_by : Option Hosted → List Differing → Performed → Bool
   performs_by None expected p = true
-  performs_by (Some host) expected p = performs host.signature expected p
+  performs_by (Some host) expected p = may_enter host p && performs host.signature expected p
 
   abbrev pub named_by : List Differing → Option MemberRecord → Bool
   named_by expected None = true

@@ -1,6 +1,9 @@
 -- A record, line by line.
-use Rattle.std.specs.Prelude.{ℕ, ◌==◌, nat_le, cond, List, [], ◌∷◌, ◌++◌, length, map, codes, bytes_eq, option_map, option_and_then, Option, Some, None}
+use Rattle.std.specs.Prelude.{ℕ, ◌==◌, nat_le, cond, Bool, List, [], ◌∷◌, ◌++◌, length, map, codes, bytes_eq, option_map, option_and_then, Option, Some, None}
+use Rattle.std.specs.List.{list_any}
+use Rattle.circus_collate.specs.declared.deployment.Troupe.{Troupe}
 use Rattle.circus_collate.specs.declared.view.View.{View}
+use Rattle.circus_model.specs.declared.signature.Signature.{Signature}
 use Rattle.circus_transfer.specs.declared.joiner.Joiner.{Joiner}
 use Rattle.circus_record.specs.declared.record.MemberRecord.{MemberRecord}
 use Rattle.circus_record.specs.Naming.{host_name}
@@ -159,10 +162,16 @@ module _ (plan : Plan) (own : ℕ) (hosted : Option Hosted) where
 
 -- ---- the whole
 
+-- some module is a root, from which runs are entered
+abbrev pub has_root : List Troupe → Bool
+has_root troupes = list_any (λ (t : Troupe). t.root) troupes
+
+abbrev pub hosted_as : Plan → ℕ → Signature → Hosted
+hosted_as plan «module» s = record { «module» = «module»; signature = s; rooted = has_root plan.deployment.troupes }
+
 -- what the node's module declares, where it hosts a member
 abbrev pub hosted_by : Plan → ℕ → Option Hosted
-hosted_by plan own =
-    option_and_then (λ «module». option_map (λ s. record { «module» = «module»; signature = s }) (declared_by plan «module»)) (troupe_at plan.deployment own)
+hosted_by plan own = option_and_then (λ «module». option_map (hosted_as plan «module») (declared_by plan «module»)) (troupe_at plan.deployment own)
 
 abbrev pub lines_read : Plan → List (List ℕ) → Option Given
 lines_read plan [] = None

@@ -1,5 +1,5 @@
 use Rattle.circus_audit.proofs.ModuleNames.{names_of, words_of}
-use Rattle.tests_audit.proofs.lines.bad_line.Goals as goal
+use Rattle.tests_audit.proofs.lines.bad_line_of.Goals as goal
 
 pub read_record-requires-clause-names : goal.read_record-requires-clause-names
 read_record-requires-clause-names c = names_of c.as_bytes.result.now c.in_ok-plan.plan c.in_ok-plan.ensures.ok
