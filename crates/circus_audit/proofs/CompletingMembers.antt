@@ -66,7 +66,7 @@ module _ (plan : Plan) (own : ℕ) (host : Hosted) (is_spelled : IsSpelled plan)
 
   -- ---- a member that isn't active
 
-  apart_reads : (h : Happened) (phase : Joiner) (word : List ℕ) → is_clean word ≡ true → phase_read (length (noted_by h)) word ≡ Some (Apart phase) → line (codes " " ++ word) ≡ phase_lines (spelled plan) phase (record_apart phase) → Reads plan own (Some host) (Events h) (member_lines (spelled plan) own host.«module» None (record_apart phase)) (Done (noted_by h) (Some (record_apart phase)) None)
+  pub apart_reads : (h : Happened) (phase : Joiner) (word : List ℕ) → is_clean word ≡ true → phase_read (length (noted_by h)) word ≡ Some (Apart phase) → line (codes " " ++ word) ≡ phase_lines (spelled plan) phase (record_apart phase) → Reads plan own (Some host) (Events h) (member_lines (spelled plan) own host.«module» None (record_apart phase)) (Done (noted_by h) (Some (record_apart phase)) None)
   apart_reads h phase word clean read said =
       let node = name_at (node_names plan) own in
       let name = name_at plan.names host.«module» in
@@ -83,15 +83,22 @@ module _ (plan : Plan) (own : ℕ) (host : Hosted) (is_spelled : IsSpelled plan)
   active_clean from since count =
       clean_both (codes "from " ++ decimal from) ((codes " at " ++ decimal since) ++ (codes " count " ++ decimal count)) (clean_both (codes "from ") (decimal from) refl (decimal_clean from)) (clean_both (codes " at " ++ decimal since) (codes " count " ++ decimal count) (clean_both (codes " at ") (decimal since) refl (decimal_clean since)) (clean_both (codes " count ") (decimal count) refl (decimal_clean count)))
 
-  -- the first line of an active member
+  -- the first line of an active member, whatever it counts
+  pub counted_begins : (h : Happened) (from since count : ℕ) → length (noted_by h) < 2 ^ 64 → from < 2 ^ 32 → since < length (noted_by h) → count ≤ last_count → Reads plan own (Some host) (Events h) (active_head (spelled plan) own host.«module» from since count) (Runs (noted_by h) (record { from = from; since = since; count = count; runs = []; current = Nothing }))
+  counted_begins h from since count short few there_is counted =
+      let notes = noted_by h in
+      let words = active_text (Active from since count) in
+      let read = active_words (length notes) from since count ∙ active_complete (length notes) from since count short (few, there_is, omega (arith, counted)) in
+      phase_reads h words (Active from since count) (active_clean from since count) read
+
+  -- that of a member with a record
   pub active_begins : (h : Happened) (kept : MemberRecord) (from : ℕ) → length (noted_by h) < 2 ^ 64 → IsActive plan host.signature (length (noted_by h)) from kept → Reads plan own (Some host) (Events h) (active_line_of plan own host kept from) (Runs (noted_by h) (record { from = kept.from; since = kept.active_at; count = kept.count; runs = []; current = Nothing }))
   active_begins h kept from short is =
       let notes = noted_by h in
-      let words = active_text (Active from kept.active_at kept.count) in
       let from_few : from < 2 ^ 32 = omega (arith, is.first, is.from) in
       let counted = is.runs.counted in
-      let read = active_words (length notes) from kept.active_at kept.count ∙ active_complete (length notes) from kept.active_at kept.count short (from_few, is.active_at, omega (arith, counted)) in
-      to_read plan own (Some host) (Events h) (by_phase notes (Active from kept.active_at kept.count)) (Runs notes (record { from = kept.from; since = kept.active_at; count = kept.count; runs = []; current = Nothing })) (active_line_of plan own host kept from) (ap (λ f. by_phase notes (Active f kept.active_at kept.count)) is.first) (phase_reads h words (Active from kept.active_at kept.count) (active_clean from kept.active_at kept.count) read)
+      let read = counted_begins h from kept.active_at kept.count short from_few is.active_at (omega (arith, counted)) in
+      to_read plan own (Some host) (Events h) (by_phase notes (Active from kept.active_at kept.count)) (Runs notes (record { from = kept.from; since = kept.active_at; count = kept.count; runs = []; current = Nothing })) (active_line_of plan own host kept from) (ap (λ f. by_phase notes (Active f kept.active_at kept.count)) is.first) read
 
   active_member : (h : Happened) (kept : MemberRecord) (from : ℕ) → length (noted_by h) < 2 ^ 64 → kept.phase ≡ joiner.Active from → IsActive plan host.signature (length (noted_by h)) from kept → kept.count ≤ last_count → AllByRecursion HasFewAsks kept.runs → Reads plan own (Some host) (Events h) (member_lines (spelled plan) own host.«module» None kept) (Done (noted_by h) (Some kept) None)
   active_member h kept from short phase is count_few few =

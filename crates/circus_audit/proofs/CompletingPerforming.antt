@@ -182,7 +182,7 @@ module _ (plan : Plan) (own : ℕ) (host : Hosted) (is_spelled : IsSpelled plan)
     after_clean number step clock =
         clean_both (decimal number ++ (codes " step " ++ decimal step)) (codes " clock " ++ clock_text clock) (clean_both (decimal number) (codes " step " ++ decimal step) (decimal_clean number) (clean_both (codes " step ") (decimal step) refl (decimal_clean step))) (clean_both (codes " clock ") (clock_text clock) refl (clock_clean clock))
 
-    reply_reads : (runs : List RunRecord) (run : RunRecord) (ask : AskRecord) → (is : IsAnswered plan s (length notes) ask) → length run.asks < 2 ^ 32 → Reads plan own (Some host) (doing from since count runs (Ask run (made_of ask))) (reply_line (length run.asks) (Some is.step) is.after is.reply) (doing from since count runs (Run (with_ask run ask)))
+    pub reply_reads : (runs : List RunRecord) (run : RunRecord) (ask : AskRecord) → (is : IsAnswered plan s (length notes) ask) → length run.asks < 2 ^ 32 → Reads plan own (Some host) (doing from since count runs (Ask run (made_of ask))) (reply_line (length run.asks) (Some is.step) is.after is.reply) (doing from since count runs (Run (with_ask run ask)))
     reply_reads runs run ask is few =
         let number = length run.asks in
         let after = after_of is.step is.after in

@@ -118,7 +118,7 @@ procedures_small i (p ∷ ps) errors all =
     let range = all.0.in_range in
     ((omega (arith, range), all_errors i.errors p.reports errors), procedures_small i ps errors all.1)
 
-some_interface : (interfaces : List Interface) (n : ℕ) (i : Interface) → AllByRecursion Obeys interfaces → slice_get interfaces n ≡ Some i → Obeys i
+pub some_interface : (interfaces : List Interface) (n : ℕ) (i : Interface) → AllByRecursion Obeys interfaces → slice_get interfaces n ≡ Some i → Obeys i
 some_interface [] n i all is = cc
 some_interface (x ∷ xs) zero i all is = let same : x ≡ i = cc in subst Obeys same all.0
 some_interface (x ∷ xs) (suc n) i all is = some_interface xs n i all.1 is

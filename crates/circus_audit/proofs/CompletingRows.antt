@@ -70,6 +70,25 @@ module _ (plan : Plan) (own : ℕ) (hosted : Option Hosted) where
     reach = behind_both stage mid last first.rows second.rows first.reach second.reach;
   }
 
+  -- lines lead from one stage to another
+  pub record Goes (stage next : Stage) : Type 0 where
+    pub rows : List (List ℕ)
+    pub clean : AllByRecursion (λ row. is_clean row ≡ true) rows
+    pub reach : stage_behind plan own hosted stage rows ≡ Some next
+
+  pub goes_by : {text : List ℕ} (stage next : Stage) → Reads stage text next → Goes stage next
+  goes_by stage next r = record { rows = r.rows; clean = r.clean; reach = r.reach }
+
+  pub stays : (stage : Stage) → Goes stage stage
+  stays stage = record { rows = []; clean = tt; reach = refl }
+
+  pub both_go : (stage mid last : Stage) → Goes stage mid → Goes mid last → Goes stage last
+  both_go stage mid last first second = record {
+    rows = first.rows ++ second.rows;
+    clean = all_both (λ row. is_clean row ≡ true) first.rows second.rows first.clean second.clean;
+    reach = behind_both stage mid last first.rows second.rows first.reach second.reach;
+  }
+
   -- the same text, or the same stage behind it
   pub text_read : (stage next : Stage) (text other : List ℕ) → text ≡ other → Reads stage text next → Reads stage other next
   text_read stage next text other same = subst (λ t. Reads stage t next) same

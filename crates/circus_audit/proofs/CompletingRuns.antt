@@ -103,19 +103,27 @@ module _ (plan : Plan) (own : ℕ) (host : Hosted) (is_spelled : IsSpelled plan)
 
   -- ---- the last line
 
-  idle_reads : (runs : List RunRecord) (state : List ValueTree) → AllByRecursion (IsEnded plan s (length notes)) runs → count ≡ count_after from (length runs) → all_fit s.variables state ≡ true → Reads plan own (Some host) (stage runs Nothing) (now_line (active_record from since count runs state)) (Done notes (Some (active_record from since count runs state)) None)
-  idle_reads runs state all counted fits =
+  -- of a member that is idle
+  pub idle_row_reads : (runs : List RunRecord) (state : List ValueTree) → count ≡ count_after from (length runs) → all_fit s.variables state ≡ true → Reads plan own (Some host) (stage runs Nothing) (line (codes "now idle" ++ (codes " state " ++ shown_list state))) (Done notes (Some (active_record from since count runs state)) None)
+  idle_row_reads runs state counted fits =
       let kept = active_record from since count runs state in
       let inner = codes " state " ++ shown_list state in
       let row = codes "now idle" ++ inner in
       let read : stage_after plan own (Some host) (stage runs Nothing) row ≡ Some (Done notes (Some kept) None) =
       ap (λ t. option_map (after_line notes) (only_if t (option_map (finish_record from since count runs) (idle_read s inner)))) (eq-eqb (count_after from (length runs)) count (sym counted))
       ∙ ap (λ r. option_map (after_line notes) (option_map (finish_record from since count runs) r)) (idle_complete s state fits) in
+      one_read plan own (Some host) (stage runs Nothing) row (Done notes (Some kept) None) (clean_both (codes "now idle") inner refl (clean_both (codes " state ") (shown_list state) refl (list_clean state))) read
+
+  idle_reads : (runs : List RunRecord) (state : List ValueTree) → AllByRecursion (IsEnded plan s (length notes)) runs → count ≡ count_after from (length runs) → all_fit s.variables state ≡ true → Reads plan own (Some host) (stage runs Nothing) (now_line (active_record from since count runs state)) (Done notes (Some (active_record from since count runs state)) None)
+  idle_reads runs state all counted fits =
+      let kept = active_record from since count runs state in
+      let inner = codes " state " ++ shown_list state in
+      let row = codes "now idle" ++ inner in
       let said : line row ≡ now_line kept =
       ap line (idle_row (codes "now ") (codes "idle") (codes " state ") (shown_list state)) ∙ ap (λ x. line (((codes "now " ++ x) ++ codes " state ") ++ shown_list state)) (sym (now_ended plan s (length notes) runs all)) in
-      text_read plan own (Some host) (stage runs Nothing) (Done notes (Some kept) None) (line row) (now_line kept) said (one_read plan own (Some host) (stage runs Nothing) row (Done notes (Some kept) None) (clean_both (codes "now idle") inner refl (clean_both (codes " state ") (shown_list state) refl (list_clean state))) read)
+      text_read plan own (Some host) (stage runs Nothing) (Done notes (Some kept) None) (line row) (now_line kept) said (idle_row_reads runs state counted fits)
 
-  waiting_reads : (runs : List RunRecord) (run : RunRecord) (ask : AskRecord) (state : List ValueTree) → run.outcome ≡ None → from + length runs ≤ last_count → count ≡ from + length runs → length run.asks < 2 ^ 32 → all_fit s.variables state ≡ true → Reads plan own (Some host) (stage runs (Ask run ask)) (now_line (active_record from since count (runs ++ with_ask run ask ∷ []) state)) (Done notes (Some (active_record from since count (runs ++ with_ask run ask ∷ []) state)) None)
+  pub waiting_reads : (runs : List RunRecord) (run : RunRecord) (ask : AskRecord) (state : List ValueTree) → run.outcome ≡ None → from + length runs ≤ last_count → count ≡ from + length runs → length run.asks < 2 ^ 32 → all_fit s.variables state ≡ true → Reads plan own (Some host) (stage runs (Ask run ask)) (now_line (active_record from since count (runs ++ with_ask run ask ∷ []) state)) (Done notes (Some (active_record from since count (runs ++ with_ask run ask ∷ []) state)) None)
   waiting_reads runs run ask state none within counted few fits =
       let place = from + length runs in
       let all = runs ++ with_ask run ask ∷ [] in

@@ -129,7 +129,7 @@ module _ (plan : Plan) (names : AreNames (node_names plan)) where
 module _ (plan : Plan) (own : ℕ) (hosted : Option Hosted) (is_spelled : IsSpelled plan) where
   -- ---- lines
 
-  ring_reads : (h : Happened) → 0 < length (node_names plan) → troupe_at plan.deployment own ≡ None → Reads plan own hosted (Events h) (ringmaster_line (spelled plan) None) (with_views plan (noted_by h) [])
+  pub ring_reads : (h : Happened) → 0 < length (node_names plan) → troupe_at plan.deployment own ≡ None → Reads plan own hosted (Events h) (ringmaster_line (spelled plan) None) (with_views plan (noted_by h) [])
   ring_reads h some none =
       let name = name_at (node_names plan) 0 in
       let inner = name ++ codes " live" in
@@ -145,7 +145,7 @@ module _ (plan : Plan) (own : ℕ) (hosted : Option Hosted) (is_spelled : IsSpel
       let here : view.troupe < length plan.names = subst (λ k. k < length plan.names) (sym is.0) few in
       clean_both (codes "view ") (name ++ ((codes " " ++ decimal view.incarnation) ++ entries)) refl (clean_both name ((codes " " ++ decimal view.incarnation) ++ entries) (name_clean plan.names is_spelled.modules view.troupe here) (clean_both (codes " " ++ decimal view.incarnation) entries (clean_both (codes " ") (decimal view.incarnation) refl (decimal_clean view.incarnation)) (entries_clean plan is_spelled.nodes view.entries is.2)))
 
-  watched : (notes : List Noted) (views : List View) → length views < length plan.names → with_views plan notes views ≡ Watching notes views
+  pub watched : (notes : List Noted) (views : List View) → length views < length plan.names → with_views plan notes views ≡ Watching notes views
   watched notes views few = ap (λ t. cond t (Done notes None (Some views)) (Watching notes views)) (ne_eqb (length views) (length plan.names) (λ e. omega (arith, few, e)))
 
   view_reads : (notes : List Noted) (done : List View) (view : View) → length done < length plan.names → IsViewOf plan (length done) view → Reads plan own hosted (with_views plan notes done) (view_line (spelled plan) view) (with_views plan notes (done ++ view ∷ []))

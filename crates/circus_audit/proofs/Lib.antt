@@ -52,3 +52,10 @@ pub mod LongRecord
 pub mod LongRecords
 pub mod NoneBegins
 pub mod BadAnswer
+pub mod SomeValues
+pub mod SomeAsks
+pub mod SomeRuns
+pub mod SomeTold
+pub mod SomeStages
+pub mod SomeSteps
+pub mod SomeRecord

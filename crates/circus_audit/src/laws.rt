@@ -1,5 +1,5 @@
 // What holds of every text.
-ghost use Rattle.std.specs.Prelude.{◌≡◌, ◌<◌, ℕ, List, Some, Ok, Err, length, map};
+ghost use Rattle.std.specs.Prelude.{◌≡◌, ◌<◌, ℕ, suc, List, Some, Ok, Err, length, map};
 ghost use Rattle.std.specs.List.{AllByRecursion};
 ghost use Rattle.circus_text.specs.Form.{IsWord};
 ghost use Rattle.circus_check.specs.Meaning.{ModuleMeant};
@@ -52,4 +52,20 @@ pub fn no_record_goes_on()
         → plan.names ≡ map (λ (m : ModuleMeant). m.name) (map module_as plan.checked.modules)
         → AllByRecursion IsWord plan.names → length text < 4294967295
         → record_answer plan text ≡ Err line → Begins plan text line → ⊥ }
+{}
+
+/// Some record of the program has the lines before it.
+pub fn some_record_goes_on_before()
+    ensures { (plan : Plan) (text : List ℕ) (before : ℕ) → IsPlan plan
+        → plan.names ≡ map (λ (m : ModuleMeant). m.name) (map module_as plan.checked.modules)
+        → AllByRecursion IsWord plan.names → length text < 4294967295
+        → record_answer plan text ≡ Err (suc before) → Begins plan text before }
+{}
+
+/// So the line that is answered is the bad one.
+pub fn answered_line_is_bad()
+    ensures { (plan : Plan) (text : List ℕ) (line : ℕ) → IsPlan plan
+        → plan.names ≡ map (λ (m : ModuleMeant). m.name) (map module_as plan.checked.modules)
+        → AllByRecursion IsWord plan.names → length text < 4294967295
+        → record_answer plan text ≡ Err line → IsBadLine plan text line }
 {}

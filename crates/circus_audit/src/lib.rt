@@ -33,7 +33,7 @@ mod words;
 pub use fault::RecordFault;
 pub use given::{Given, GivenEvent, GivenEvents};
 pub use laws::{
-    no_record_goes_on, one_bad_line, read_is_text, records_have_no_bad_line, text_is_read,
-    text_says_one_thing,
+    answered_line_is_bad, no_record_goes_on, one_bad_line, read_is_text, records_have_no_bad_line,
+    some_record_goes_on_before, text_is_read, text_says_one_thing,
 };
 pub use record::read_record;
