@@ -1,8 +1,11 @@
 -- What an audit comes to: one end, with status 0 where the record is a true one, else with 13.
 use Rattle.std.proofs.Common.{◌≡◌, ℕ, ◌⊎◌, inl, inr, List, Result, Ok, Err, IfOk, refl, sym, ap, subst, ◌∙◌}
 use Rattle.circus_config.specs.declared.plan.Plan.{Plan}
+use Rattle.circus_config.specs.Program.{IsPlan}
 use Rattle.circus_plan_modules.specs.Loaded.{behaviours_in}
 use Rattle.circus_audit.specs.declared.given.Given.{Given}
+use Rattle.circus_audit.proofs.Beginnings.{none_of_record, one_line}
+use Rattle.circus_audit.proofs.OneReading.{one_given}
 use Rattle.circus_verdict.specs.declared.verdict.Verdict.{Verdict}
 use Rattle.circus_verdict.specs.declared.verdict.Verdict.TheVariants.{Yes, NotARun, Run}
 use Rattle.circus_verdict.specs.Verdict.{IsVerdict}
@@ -13,25 +16,17 @@ use Rattle.circus_commands.specs.Ending.{Ending}
 use Rattle.circus_commands.specs.declared.ending.Ending as coded
 use Rattle.circus_commands.specs.Seen.Ending.{ending_of}
 use Rattle.circus_simulation.specs.Booted.{names_in}
+use Rattle.circus_program.specs.Accepted.{HasModuleNames}
 use Rattle.circus_program.specs.Audit.{IsRecord, IsBadAt, IsJudged, verdict_end, bad_line_end, IsEndOfAudit, IsRefusedRecord, IsTrueRecord}
 
 -- ---- one end
 
-bad_or_record : (number : ℕ) (given : Given) → ◌≡◌ {A = Result Given ℕ} (Ok given) (Err number) → ⊥
-bad_or_record number given is = cc
-
-same_given : (given other : Given) → ◌≡◌ {A = Result Given ℕ} (Ok given) (Ok other) → given ≡ other
-same_given given other is = cc
-
-same_line : (number other : ℕ) → ◌≡◌ {A = Result Given ℕ} (Err number) (Err other) → number ≡ other
-same_line number other is = cc
-
-module _ (plan : Plan) (text : List ℕ) where
-  -- of one text one thing is said
+-- of one text of a plan one thing is said
+module _ (plan : Plan) (plan_is : IsPlan plan) (named : HasModuleNames plan) (text : List ℕ) where
   judged_one : (given other : Given) (one another : Verdict) → IsJudged plan text given one → IsJudged plan text other another
       → verdict_end ((names_in plan).node given.node) one ≡ verdict_end ((names_in plan).node other.node) another
   judged_one given other one another is also =
-      let same = same_given given other (sym is.is_record ∙ also.is_record) in
+      let same = one_given plan given other text plan_is named.names named.words is.is_record.0 is.is_record.1 also.is_record.1 in
       let moved = subst (λ (g : Given). IsVerdict plan.deployment (behaviours_in plan) g one) same is.verdict_is in
       let verdicts = verdict_one plan.deployment (behaviours_in plan) other one another moved also.verdict_is in
       λ i. verdict_end ((names_in plan).node (same i).node) (verdicts i)
@@ -39,9 +34,9 @@ module _ (plan : Plan) (text : List ℕ) where
   pub audit_one : (one another : Ending) → IsEndOfAudit plan text one → IsEndOfAudit plan text another → one ≡ another
   audit_one one another (inl (given, verdict, judged, is)) (inl (other, said, also, so)) =
       is ∙ judged_one given other verdict said judged also ∙ sym so
-  audit_one one another (inl (given, verdict, judged, is)) (inr (number, bad, so)) = absurd (bad_or_record number given (sym judged.is_record ∙ bad))
-  audit_one one another (inr (number, bad, is)) (inl (given, verdict, judged, so)) = absurd (bad_or_record number given (sym judged.is_record ∙ bad))
-  audit_one one another (inr (number, bad, is)) (inr (other, also, so)) = is ∙ ap bad_line_end (same_line number other (sym bad ∙ also)) ∙ sym so
+  audit_one one another (inl (given, verdict, judged, is)) (inr (number, bad, so)) = absurd (none_of_record plan given text number judged.is_record.1 bad)
+  audit_one one another (inr (number, bad, is)) (inl (given, verdict, judged, so)) = absurd (none_of_record plan given text number judged.is_record.1 bad)
+  audit_one one another (inr (number, bad, is)) (inr (other, also, so)) = is ∙ ap bad_line_end (one_line plan text number other bad also) ∙ sym so
 
 -- ---- of an end that was made
 

@@ -10,6 +10,8 @@ use Rattle.circus_schedule.specs.Meaning.{numbers_of}
 use Rattle.circus_schedule.proofs.OneAnswer.{IsAnswer-one}
 use Rattle.circus_config.specs.declared.plan.Plan.{Plan}
 use Rattle.circus_config.specs.Program.{IsProgramOf}
+use Rattle.circus_config.proofs.PlanIs.{plan_is}
+use Rattle.circus_audit.proofs.ModuleNames as of_modules
 use Rattle.circus_commands.specs.declared.one_file.OneFile.{OneFile}
 use Rattle.circus_commands.specs.declared.one_file.OneFile.TheVariants.{Stubs, Run, Place}
 use Rattle.circus_commands.specs.Ending.{Ending}
@@ -41,9 +43,10 @@ replay_one shown plan schedule one another (read, answer, is) (again, answers, a
     let reads : read ≡ again = IsAnswer-one (numbers_of plan.deployment.nodes) schedule read again answer answers in
     read_one shown plan again one another (subst (λ (r : Result (List Line) ScheduleFault). IsReplayOf shown plan r one) reads is) also
 
-second_one : (second : Second) (plan : Plan) (more : List ℕ) (one another : Ending) → IsEndOfSecond second plan more one → IsEndOfSecond second plan more another → one ≡ another
-second_one (Schedule shown) plan more one another is also = replay_one shown plan more one another is also
-second_one NodeRecord plan more one another is also = audit_one plan more one another is also
+second_one : (second : Second) (bytes : List ℕ) (plan : Plan) → IsProgramOf bytes plan → (more : List ℕ) (one another : Ending) → IsEndOfSecond second plan more one → IsEndOfSecond second plan more another → one ≡ another
+second_one (Schedule shown) bytes plan means more one another is also = replay_one shown plan more one another is also
+second_one NodeRecord bytes plan means more one another is also =
+    audit_one plan (plan_is bytes plan means) (record { names = of_modules.names_of bytes plan means; words = of_modules.words_of bytes plan means }) more one another is also
 
 node_one : (bytes name : List ℕ) (turns : ℕ) (plan : Plan) (one other : Due) → IsProgramOf bytes plan → IsDueOfNode name turns plan one → IsDueOfNode name turns plan other → one ≡ other
 node_one bytes name turns plan one other means (inl (number, named, is)) (inl (another, also, so)) =
@@ -212,8 +215,8 @@ module _ (contents : List ℕ → Option (List ℕ)) where
   one_of_end : (command : OneFile) (bytes : List ℕ) (one other : Due) → IsDueOfEnd command bytes one → IsDueOfEnd command bytes other → one ≡ other
   one_of_end command bytes one other (ending, end, is) (another, ends, also) = is ∙ ap finish (end_one command bytes ending another end ends) ∙ sym also
 
-  one_of_second : (second : Second) (plan : Plan) (more : List ℕ) (one other : Due) → IsDueOfSecond second plan more one → IsDueOfSecond second plan more other → one ≡ other
-  one_of_second second plan more one other (ending, end, is) (another, ends, also) = is ∙ ap finish (second_one second plan more ending another end ends) ∙ sym also
+  one_of_second : (second : Second) (bytes : List ℕ) (plan : Plan) → IsProgramOf bytes plan → (more : List ℕ) (one other : Due) → IsDueOfSecond second plan more one → IsDueOfSecond second plan more other → one ≡ other
+  one_of_second second bytes plan means more one other (ending, end, is) (another, ends, also) = is ∙ ap finish (second_one second bytes plan means more ending another end ends) ∙ sym also
 
   -- where one thing comes of a plan
   abbrev OneOf : (Plan → Due → Type 0) → Type 0
@@ -244,7 +247,7 @@ module _ (contents : List ℕ → Option (List ℕ)) where
 
   one_of_asked : (asked : Asked) (one other : Due) → OfAsked asked one → OfAsked asked other → one ≡ other
   one_of_asked (two second program file) one other is also =
-      one_of_program program (OfSecond second file) (λ bytes plan first next means. one_of_file file (IsDueOfSecond second plan) (one_of_second second plan) first next) one other is also
+      one_of_program program (OfSecond second file) (λ bytes plan first next means. one_of_file file (IsDueOfSecond second plan) (one_of_second second bytes plan means) first next) one other is also
   one_of_asked (reading command file) one other is also = one_of_file file (IsDueOfEnd command) (one_of_end command) one other is also
   one_of_asked (serving program name word) one other (turns, spelled, is) (others, again, also) =
       one_of_node program name others one other (subst (λ n. OfProgram program (IsDueOfNode name n) one) (spelled_once word turns others spelled again) is) also

@@ -1,11 +1,12 @@
 -- What the audit of a node's record comes to.
-use Rattle.std.specs.Prelude.{ℕ, ◌≡◌, ◌⊎◌, List, ◌++◌, codes, Ok, Err}
+use Rattle.std.specs.Prelude.{ℕ, ◌≡◌, ◌<◌, ◌⊎◌, List, ◌++◌, codes, length}
 use Rattle.std.specs.Fmt.{decimal}
 use Rattle.circus_record.specs.Line.{line}
 use Rattle.circus_config.specs.declared.plan.Plan.{Plan}
 use Rattle.circus_plan_modules.specs.Loaded.{behaviours_in}
 use Rattle.circus_audit.specs.declared.given.Given.{Given}
-use Rattle.circus_audit.specs.Answer.{record_answer}
+use Rattle.circus_audit.specs.BadLine.{IsBadLine}
+use Rattle.circus_audit.specs.RecordText.{IsRecordText}
 use Rattle.circus_verdict.specs.declared.verdict.Verdict.{Verdict}
 use Rattle.circus_verdict.specs.declared.verdict.Verdict.TheVariants.{Yes, NotARun, Run}
 use Rattle.circus_verdict.specs.Verdict.{IsVerdict}
@@ -13,13 +14,13 @@ use Rattle.circus_commands.specs.declared.status.Status.TheVariants.{Done, BadRe
 use Rattle.circus_commands.specs.Ending.{Ending}
 use Rattle.circus_simulation.specs.Booted.{names_in}
 
--- the text is the record of a node of the program, and says this
+-- the text, of fewer than 2^32 - 1 bytes, is the record of a node of the program, and says this
 abbrev pub IsRecord : Plan → List ℕ → Given → Type 0
-IsRecord plan text given = record_answer plan text ≡ Ok given
+IsRecord plan text given = (length text < 4294967295) × IsRecordText plan given text
 
 -- it is none, and this is the number of its first line with which no record goes on
 abbrev pub IsBadAt : Plan → List ℕ → ℕ → Type 0
-IsBadAt plan text number = record_answer plan text ≡ Err number
+IsBadAt plan text number = IsBadLine plan text number
 
 -- it is a record, and this is so of what it says
 pub record IsJudged (plan : Plan) (text : List ℕ) (given : Given) (verdict : Verdict) : Type 0 where

@@ -11,7 +11,6 @@ ghost use Rattle.circus_program.specs.Replay.{replay_of, picture_of};
 ghost use Rattle.circus_program.specs.Agreeing.{IsAgreed, IsAgreedSoFar, ArePlans};
 ghost use Rattle.circus_config.specs.Program.{IsPlan};
 ghost use Rattle.circus_program.specs.Promise.{KeepsPromise, IsKept, IsKeptSoFar, enough_deliveries};
-ghost use Rattle.circus_audit.specs.BadLine.{IsBadLine};
 ghost use Rattle.circus_audit.specs.declared.given.Given.{Given};
 ghost use Rattle.circus_verdict.specs.declared.verdict.Verdict.TheVariants.{NotARun};
 ghost use Rattle.circus_program.specs.Accepted.{HasModuleNames, IsAccepted, IsAcceptedOf};
@@ -178,8 +177,6 @@ pub fn audits_accept_served_nodes()
         → IsAcceptedOf plan node turns old new ending.text }
     ensures no_bad_line { (plan : Plan) (text : List ℕ) (number : ℕ) → IsAccepted plan text
         → IsBadAt plan text number → ⊥ }
-    ensures no_line { (plan : Plan) (text : List ℕ) (line : ℕ) → IsAccepted plan text
-        → IsBadLine plan text line → ⊥ }
-    ensures a_run { (plan : Plan) (text : List ℕ) (given : Given) → IsAccepted plan text
-        → IsJudged plan text given NotARun → ⊥ }
+    ensures a_run { (plan : Plan) (text : List ℕ) (given : Given) → IsPlan plan
+        → HasModuleNames plan → IsAccepted plan text → IsJudged plan text given NotARun → ⊥ }
 {}

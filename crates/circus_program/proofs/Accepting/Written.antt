@@ -2,7 +2,7 @@
 use Rattle.std.specs.List.{AllByRecursion, flat_map}
 use Rattle.std.specs.Option.{option_map_or}
 use Rattle.std.specs.Prelude.{slice_get, codes, option_map, option_and_then}
-use Rattle.std.proofs.Common.{◌≡◌, ℕ, ◌<◌, inl, inr, List, [], ◌∷◌, ◌++◌, map, length, All, Option, None, Some, Result, Ok, Err, refl, sym, ap, subst, ◌∙◌}
+use Rattle.std.proofs.Common.{◌≡◌, ℕ, ◌<◌, inl, inr, List, [], ◌∷◌, ◌++◌, map, length, All, Option, None, Some, Ok, refl, sym, ap, subst, ◌∙◌}
 use Rattle.std.proofs.lemmas.List.{length-map}
 use Rattle.std.proofs.lemmas.List.Concat.{flat_map-append}
 use Rattle.std.proofs.lemmas.Option.{slice_get-map}
@@ -47,13 +47,8 @@ use Rattle.circus_headline_theory.specs.ServedRun.{own_happenings, shown_of}
 use Rattle.circus_audit.specs.RecordText.{Noted, all_noted_lines, kept_lines, record_text, IsRecordText}
 use Rattle.circus_audit.specs.declared.given.Given.{Given}
 use Rattle.circus_audit.specs.declared.given.GivenEvent.{GivenEvent}
-use Rattle.circus_audit.specs.Answer.{or_bad, record_answer}
-use Rattle.circus_audit.specs.BadLine.{IsBadLine}
-use Rattle.circus_audit.specs.Seen.Outlook.{bad_line}
-use Rattle.circus_audit.specs.Seen.Reading.{record_read}
 use Rattle.circus_audit.proofs.Beginnings.{none_of_record}
-use Rattle.circus_audit.proofs.OneReading.{answer_is}
-use Rattle.circus_audit.proofs.SoundingRecord.{read_is_record}
+use Rattle.circus_audit.proofs.OneReading.{one_given}
 use Rattle.circus_verdict.specs.Audited.{events_in, said_in, said_of, IsAudited}
 use Rattle.circus_verdict.specs.declared.verdict.Verdict.TheVariants.{NotARun}
 use Rattle.circus_program.specs.Audit.{IsBadAt, IsJudged}
@@ -188,7 +183,7 @@ module _ (plan : Plan) (is : IsPlan plan) (named : HasModuleNames plan) (node : 
     accepted recorded text happened acting written few =
         record {
           given = given;
-          is_record = answer_is plan given text is named.names named.words few (subst (IsRecordText plan given) (sym written) (is_text recorded happened acting));
+          is_record = (few, subst (IsRecordText plan given) (sym written) (is_text recorded happened acting));
           audited = (whole_is plan is node within last r many_names).audited;
         }
 
@@ -224,20 +219,9 @@ module _ (plan : Plan) (is : IsPlan plan) (named : HasModuleNames plan) (node : 
 -- ---- what an audit of it comes to
 
 pub no_bad_line : (plan : Plan) (text : List ℕ) (number : ℕ) → IsAccepted plan text → IsBadAt plan text number → ⊥
-no_bad_line plan text number a bad = (let clash : ◌≡◌ {A = Result Given ℕ} (Ok a.given) (Err number) = sym a.is_record ∙ bad in cc)
+no_bad_line plan text number a bad = none_of_record plan a.given text number a.is_record.1 bad
 
-read_so : (plan : Plan) (text : List ℕ) (given : Given) → record_answer plan text ≡ Ok given → record_read plan text ≡ Some given
-read_so plan text given is = by_read (record_read plan text) is
-  where
-    by_read : (r : Option Given) → or_bad (bad_line plan text) r ≡ Ok given → r ≡ Some given
-    by_read None e = absurd (let clash : ◌≡◌ {A = Result Given ℕ} (Err (bad_line plan text)) (Ok given) = e in cc)
-    by_read (Some other) e = (let same : ◌≡◌ {A = Result Given ℕ} (Ok other) (Ok given) = e in cc)
-
-pub no_line : (plan : Plan) (text : List ℕ) (line : ℕ) → IsAccepted plan text → IsBadLine plan text line → ⊥
-no_line plan text line a bad = none_of_record plan a.given text line (read_is_record plan text a.given (read_so plan text a.given a.is_record)) bad
-
-pub is_a_run : (plan : Plan) (text : List ℕ) (given : Given) → IsAccepted plan text → IsJudged plan text given NotARun → ⊥
-is_a_run plan text given a judged =
-    let same : ◌≡◌ {A = Result Given ℕ} (Ok a.given) (Ok given) = sym a.is_record ∙ judged.is_record in
-    let said : a.given ≡ given = cc in
-    judged.verdict_is (subst (IsAudited plan.deployment (behaviours_in plan)) said a.audited)
+pub is_a_run : (plan : Plan) (text : List ℕ) (given : Given) → IsPlan plan → HasModuleNames plan → IsAccepted plan text → IsJudged plan text given NotARun → ⊥
+is_a_run plan text given is named a judged =
+    let same = one_given plan a.given given text is named.names named.words a.is_record.0 a.is_record.1 judged.is_record.1 in
+    judged.verdict_is (subst (IsAudited plan.deployment (behaviours_in plan)) same a.audited)

@@ -1,5 +1,5 @@
-use Rattle.std.proofs.Common.{Err, subst}
-use Rattle.circus_audit.specs.Answer.{record_answer, IsAnswer}
+use Rattle.std.proofs.Common.{Err, subst, arith}
+use Rattle.circus_audit.specs.BadLine.{IsBadIn}
 use Rattle.circus_audit.specs.declared.fault.RecordFault.{RecordFault}
 use Rattle.circus_plan_modules.proofs.Named.{nodes_ascii}
 use Rattle.circus_simulation.specs.Booted.{names_in}
@@ -14,10 +14,10 @@ audit-requires-clause-possible c = c.in-Ok.ensures.given.possible
 
 pub returns-in-Ok-clause-ending : goal.returns-in-Ok-clause-ending
 returns-in-Ok-clause-ending c =
-    judged_ends c.args.plan c.args.text.now c.in-Ok.given c.in_ok-verdict-in-Ok.verdict c.end_of_verdict.result c.in-Ok.ensures.answer c.in_ok-verdict-in-Ok.ensures
+    judged_ends c.args.plan c.args.text.now c.in-Ok.given c.in_ok-verdict-in-Ok.verdict c.end_of_verdict.result (omega (arith, c.requires.short), c.in-Ok.ensures.given) c.in_ok-verdict-in-Ok.ensures
     (c.end_of_verdict.ensures.ending ((names_in c.args.plan).node c.in-Ok.given.node) c.in_ok-no_run-in-Ok.ensures.ending)
 
 pub returns-in-Err-BadLine-clause-ending : goal.returns-in-Err-BadLine-clause-ending
 returns-in-Err-BadLine-clause-ending c =
-    let bad = subst (λ (f : RecordFault). IsAnswer (Err f) (record_answer c.args.plan c.args.text.now)) c.in-Err-BadLine.field-0-is c.in-Err-BadLine.ensures.answer in
+    let bad = subst (λ (f : RecordFault). IsBadIn c.args.plan c.args.text.now (Err f)) c.in-Err-BadLine.field-0-is c.in-Err-BadLine.ensures.bad in
     bad_line_ends c.args.plan c.args.text.now c.in-Err-BadLine.number c.bad_line.result bad c.bad_line.ensures.ending

@@ -1,4 +1,4 @@
-use Rattle.circus_program.proofs.Accepting.Written.{audits_accept, no_bad_line, no_line, is_a_run}
+use Rattle.circus_program.proofs.Accepting.Written.{audits_accept, no_bad_line, is_a_run}
 use Rattle.circus_program.proofs.laws.audits_accept_served_nodes.Goals as goal
 
 pub returns-clause-accepted : goal.returns-clause-accepted
@@ -6,9 +6,6 @@ returns-clause-accepted c = λ plan node turns old new ending is named within en
 
 pub returns-clause-no_bad_line : goal.returns-clause-no_bad_line
 returns-clause-no_bad_line c = no_bad_line
-
-pub returns-clause-no_line : goal.returns-clause-no_line
-returns-clause-no_line c = no_line
 
 pub returns-clause-a_run : goal.returns-clause-a_run
 returns-clause-a_run c = is_a_run
