@@ -26,7 +26,7 @@ pub mod Replayed
 pub mod Telling
 pub mod Promised
 pub mod Agreed
-pub mod Planned
+pub mod Known
 pub mod ServedRuns
 pub mod Accepting
 pub mod PutLemmas

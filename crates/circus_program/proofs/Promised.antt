@@ -1,5 +1,5 @@
 -- What is promised of worlds is kept, and so of what is written of them.
-use Rattle.std.proofs.Common.{◌≡◌, ℕ, ◌+◌, ◌<◌, arith, inl, inr, ◌⊎◌, Option, Some, List, length, refl, sym, ap, subst, ◌∙◌, Ok, Err}
+use Rattle.std.proofs.Common.{◌≡◌, ℕ, ◌+◌, ◌<◌, arith, inl, inr, ◌⊎◌, Option, Some, List, length, sym, ap, subst, ◌∙◌, Ok, Err}
 use Rattle.std.proofs.lemmas.Option.{same_Some}
 use Rattle.circus_model.specs.Behaviour.{Behaviour}
 use Rattle.circus_schedule.specs.declared.line.Line.{Line}
@@ -13,6 +13,7 @@ use Rattle.circus_world_theory.proofs.Quiescence.Plain.{plain_roots_are_done, pl
 use Rattle.circus_settle.proofs.AllDelivered.{alone, first_once}
 use Rattle.circus_config.specs.declared.plan.Plan.{Plan}
 use Rattle.circus_config.specs.Program.{IsProgramOf, IsPlan}
+use Rattle.circus_config.proofs.PlanIs.{plan_is}
 use Rattle.circus_plan_modules.specs.Loaded.{behaviours_in}
 use Rattle.circus_plan_theory.proofs.Plan.{plan_agrees, plan_modules}
 use Rattle.circus_plan_theory.proofs.Troupes.{plan_of_troupes}
@@ -23,7 +24,7 @@ use Rattle.circus_commands.proofs.OneProgram.{good_or_refused}
 use Rattle.circus_commands.specs.Refusal.{IsEndOfRefused}
 use Rattle.circus_commands.specs.Spent.{end_of_spent}
 use Rattle.circus_simulation.specs.Booted.{names_in}
-use Rattle.circus_program.specs.Form.{replay, picture, sample, draw, settle}
+use Rattle.circus_program.specs.Form.{replay}
 use Rattle.circus_program.specs.declared.shown.Shown.TheVariants.{Report}
 use Rattle.circus_program.specs.declared.second.Second.TheVariants.{Schedule}
 use Rattle.circus_program.specs.Replay.{IsEndOfReplay, replay_of, cause_text, refuse_line}
@@ -32,7 +33,6 @@ use Rattle.circus_settle.specs.Settled.{first_deliveries}
 use Rattle.circus_program.specs.Last.{IsDueLast, IsReplay, HasLeft}
 use Rattle.circus_program.specs.Worlds.{AreLed, IsCutBySpending, IsSpentAtBoot, AskToSimulate, IsWrittenBySome, IsOfWorld}
 use Rattle.circus_program.specs.Promise.{hosted_in, KeepsPromise, IsKept, IsKeptSoFar, IsKeptOfSchedule, enough_deliveries}
-use Rattle.circus_program.specs.Agreeing.{ArePlans}
 use Rattle.circus_program.proofs.PlanOne.{plan_is_one}
 use Rattle.circus_program.proofs.OneDue.{OfProgram, OfSecond, of_replaying}
 use Rattle.circus_program.proofs.Reports.{is_cut_by_refusal, is_cut_by_spending}
@@ -78,25 +78,25 @@ left_few plan deliveries is (w, last, booted_is, lead, left) =
 
 module _ (contents : List ℕ → Option (List ℕ)) (words : List (List ℕ)) where
   -- what words ask for is a plan
-  world_plan : (plan : Plan) (lines : List Line) (last : WorldState Behaviour) (text : List ℕ) → ArePlans contents words → IsOfWorld contents words plan lines last text → IsPlan plan
-  world_plan plan lines last text plans of = by_form of.written
+  world_plan : (plan : Plan) (lines : List Line) (last : WorldState Behaviour) (text : List ℕ) → IsOfWorld contents words plan lines last text → IsPlan plan
+  world_plan plan lines last text of = by_form of.written
     where
       by_form : IsWrittenBySome contents words plan lines last text → IsPlan plan
-      by_form (inl (schedule, r, read, so)) = plans (replay r.program r.name) r.program r.bytes plan r.of_form tt refl r.program_is r.good
-      by_form (inr (inl (seed, steps, begun, d, lines_are, count, booted_is, sampled_is, so))) = plans (sample d.program seed steps) d.program d.bytes plan d.of_form tt refl d.program_is d.good
-      by_form (inr (inr (inr (inl (seed, steps, begun, l, lines_are, count, booted_is, sampled_is, so))))) = plans (draw l.program seed steps) l.program l.bytes plan l.of_form tt refl l.program_is l.good
-      by_form (inr (inr (inr (inr (schedule, r, read, so))))) = plans (picture r.program r.name) r.program r.bytes plan r.of_form tt refl r.program_is r.good
-      by_form (inr (inr (inl (deliveries, s, few, lines_are, so)))) = plans (settle s.program deliveries) s.program s.bytes plan s.of_form tt refl s.program_is s.good
+      by_form (inl (schedule, r, read, so)) = plan_is r.bytes plan r.good
+      by_form (inr (inl (seed, steps, begun, d, lines_are, count, booted_is, sampled_is, so))) = plan_is d.bytes plan d.good
+      by_form (inr (inr (inr (inl (seed, steps, begun, l, lines_are, count, booted_is, sampled_is, so))))) = plan_is l.bytes plan l.good
+      by_form (inr (inr (inr (inr (schedule, r, read, so))))) = plan_is r.bytes plan r.good
+      by_form (inr (inr (inl (deliveries, s, few, lines_are, so)))) = plan_is s.bytes plan s.good
 
-  pub ends_kept : (ending : Ending) → IsDueLast contents words (finish ending) → ending.status ≡ Done → AskToSimulate words → ArePlans contents words → IsKept contents words ending.text
-  ends_kept ending due done simulates plans =
+  pub ends_kept : (ending : Ending) → IsDueLast contents words (finish ending) → ending.status ≡ Done → AskToSimulate words → IsKept contents words ending.text
+  ends_kept ending due done simulates =
       let (plan, lines, last, of) = simulated_written contents words ending due done simulates in
       record {
         plan = plan;
         lines = lines;
         last = last;
         of_world = of;
-        kept = keeps_promise plan lines last (world_plan plan lines last ending.text plans of) of.led;
+        kept = keeps_promise plan lines last (world_plan plan lines last ending.text of) of.led;
       }
 
 -- ---- so far

@@ -1,12 +1,11 @@
 -- What it means that the promise of a whole run is kept in what is written of a program: that each node was a node run by what the
 -- lines gave to it, and that the copies agree.
-use Rattle.std.specs.Prelude.{ℕ, ◌≡◌, ◌⊎◌, Option, Some, List, ◌∷◌, ◌++◌, length, Ok, Err, IfSome}
+use Rattle.std.specs.Prelude.{ℕ, ◌≡◌, ◌⊎◌, Option, List, ◌∷◌, ◌++◌, length, Ok, Err, IfSome}
 use Rattle.circus_schedule.specs.declared.line.Line.{Line}
 use Rattle.circus_schedule.specs.declared.schedule_fault.ScheduleFault.{ScheduleFault}
 use Rattle.circus_schedule.specs.Meaning.{numbers_of}
 use Rattle.circus_schedule.specs.Answer.{IsAnswer}
 use Rattle.circus_config.specs.declared.plan.Plan.{Plan}
-use Rattle.circus_config.specs.Program.{IsProgramOf, IsPlan}
 use Rattle.circus_plan_modules.specs.Loaded.{behaviours_in}
 use Rattle.circus_report.specs.Writing.{Writes}
 use Rattle.circus_headline_theory.specs.Facts.{Facts, sent_text, report_of, summary_of, settled_of}
@@ -15,10 +14,9 @@ use Rattle.circus_commands.specs.declared.status.Status.TheVariants.{Done}
 use Rattle.circus_settle.specs.Settled.{first_deliveries}
 use Rattle.circus_simulation.specs.Booted.{names_in}
 use Rattle.circus_simulation.specs.Schedule.{lines_of_sample}
-use Rattle.circus_program.specs.Form.{CommandForm, IsOfForm}
 use Rattle.circus_program.specs.Replay.{replay_of}
-use Rattle.circus_program.specs.Last.{program_read, IsReplay, IsSample, IsSettle}
-use Rattle.circus_program.specs.Worlds.{IsSpentAtBoot, IsSimulation, AskForRecords}
+use Rattle.circus_program.specs.Last.{IsReplay, IsSample, IsSettle}
+use Rattle.circus_program.specs.Worlds.{IsSpentAtBoot, AskForRecords}
 
 -- the report of facts
 abbrev pub report_of_facts : Plan → Facts → List ℕ
@@ -72,12 +70,6 @@ IsCutSoFar plan schedule text =
     ⊎ (IsSpentAtBoot plan text ⊎ ((lines : List Line) × IsAnswer (numbers_of plan.deployment.nodes) schedule (Ok lines) × IsAgreedSoFar plan lines text))
 
 -- ---- of a call
-
--- what words ask to simulate is a plan where it is a program, as is each program that was read
-abbrev pub ArePlans : (List ℕ → Option (List ℕ)) → List (List ℕ) → Type 0
-ArePlans contents words =
-    (form : CommandForm) (program bytes : List ℕ) (plan : Plan) → IsOfForm words form → IsSimulation form → program_read form ≡ Some program
-    → contents program ≡ Some bytes → IsProgramOf bytes plan → IsPlan plan
 
 -- where the shelf tells its contents, and the words ask for what tells records, what was written is agreed
 abbrev pub WritesAgreed : Option (List ℕ → Option (List ℕ)) → List (List ℕ) → Option (List ℕ) → Option (List ℕ) → Type 0

@@ -3,7 +3,7 @@ pub mod Words
 pub mod Step
 pub mod Put
 pub mod Asked
-pub mod Planned
+pub mod Known
 pub mod Ready
 pub mod Ended
 pub mod Followed

@@ -54,7 +54,7 @@ enum Asked<'a> {
 ghost use Rattle.circus_program.specs.Seen.Step.{due_of, Stands, LacksNone, IsLackNoted, IsStepBehind, IsStepOfProgram, IsStepOfTwo, IsStepOfFile};
 ghost use Rattle.circus_program.specs.Seen.Asked.{IsDueOfTask, IsDueOfCommand, asked_form};
 ghost use Rattle.circus_program.specs.Accepted.{HasModuleNames};
-ghost use Rattle.circus_program.specs.Seen.Planned.{MeanPlans, IsKnownOf, ReadsPlans, OfContents, PlansOf};
+ghost use Rattle.circus_program.specs.Seen.Known.{IsKnownOf, AreKnownBy, OfContents, ShortLinesOf};
 
 // What comes of a plan and the bytes of a second file.
 fn of_second<'a>(
@@ -119,7 +119,6 @@ fn behind_first<'a, S: Shelf>(
     ensures lack { IfOk result
         (IsLackNoted (S.fetched shelf.new) (S.faults shelf.old) (S.faults shelf.new)) }
     ensures asked { AsksFirstOf (S.fetched shelf.old) (S.fetched shelf.new) (file.now ∷ []) }
-    ensures planned { IfOk result (λ _. MeanPlans program.now) }
 {
     match plan_of(alloc, program)? {
         Ok(plan) => second_file(alloc, second, plan, file, shelf),
@@ -142,8 +141,6 @@ fn two_files<'a, S: Shelf>(
         (IsLackNoted (S.fetched shelf.new) (S.faults shelf.old) (S.faults shelf.new)) }
     ensures asked { AsksFirstOf (S.fetched shelf.old) (S.fetched shelf.new)
         (program.now ∷ file.now ∷ []) }
-    ensures planned { IfOk result (λ step. LacksNone step
-        → OfContents (S.contents shelf.old) MeanPlans program.now) }
 {
     let bytes = match shelf.fetch(program) {
         Ok(bytes) => bytes,
@@ -178,7 +175,7 @@ fn of_bytes<'a>(alloc: Global, command: Command<'_>, bytes: &[u8]) -> Result<Ste
     ensures due { IfOk result (λ step. IsDueOfCommand command.entry bytes.now (due_of step)) }
     ensures stands { IfOk result Stands }
     ensures whole { IfOk result LacksNone }
-    ensures planned { IfOk result (λ _. ReadsPlans command.entry bytes.now) }
+    ensures known { IfOk result (λ _. AreKnownBy command.entry bytes.now) }
 {
     match command {
         Command::End(command) => Ok(Step::Finish(end_of(alloc, command, bytes)?)),
@@ -202,8 +199,8 @@ fn one_file<'a, S: Shelf>(
     ensures lack { IfOk result
         (IsLackNoted (S.fetched shelf.new) (S.faults shelf.old) (S.faults shelf.new)) }
     ensures asked { AsksFirstOf (S.fetched shelf.old) (S.fetched shelf.new) (name.now ∷ []) }
-    ensures planned { IfOk result (λ step. LacksNone step
-        → OfContents (S.contents shelf.old) (ReadsPlans command.entry) name.now) }
+    ensures known { IfOk result (λ step. LacksNone step
+        → OfContents (S.contents shelf.old) (AreKnownBy command.entry) name.now) }
 {
     let bytes = match shelf.fetch(name) {
         Ok(bytes) => bytes,
@@ -267,8 +264,8 @@ pub fn follow<'a, S: Shelf>(
         (IsLackNoted (S.fetched shelf.new) (S.faults shelf.old) (S.faults shelf.new)) }
     ensures asked { AsksOnly (S.fetched shelf.old) (S.fetched shelf.new)
         (map string_bytes words.now) }
-    ensures planned { IfOk result (λ step. LacksNone step
-        → PlansOf (S.contents shelf.old) (map string_bytes words.now)) }
+    ensures known { IfOk result (λ step. LacksNone step
+        → ShortLinesOf (S.contents shelf.old) (map string_bytes words.now)) }
 {
     let Some(form) = read_words(words) else {
         let refused = Ending::of_line(alloc, Status::BadCommandLine, "circus: bad command line\n")?;

@@ -7,7 +7,7 @@ ghost use Rattle.circus_commands.specs.Seen.Ending.{ending_of};
 ghost use Rattle.circus_serve.specs.Outside.{tells_of};
 ghost use Rattle.circus_program.specs.Answer.{AsksForNode, AsksOnly, shelf_fault};
 ghost use Rattle.circus_program.specs.Answered.{IsAnswered, IsBrokenOff};
-ghost use Rattle.circus_program.specs.Seen.Planned.{PlansOf};
+ghost use Rattle.circus_program.specs.Seen.Known.{ShortLinesOf};
 ghost use Rattle.circus_program.specs.Seen.Put.{IsAnswer, IsFinished};
 ghost use Rattle.circus_program.specs.Seen.Step.{IsPutStep, IsServing, Stands};
 
@@ -95,8 +95,8 @@ fn answer<S: Shelf, K: Sink, L: Link>(
         (Rose (L.faults link.old) (L.faults link.new))
         (K.written sink.old) (K.written sink.new)
         (Rose (K.faults sink.old) (K.faults sink.new)) result }
-    ensures planned { IsTrue (is_end result)
-        → PlansOf (S.contents shelf.old) (map string_bytes words.now) }
+    ensures known { IsTrue (is_end result)
+        → ShortLinesOf (S.contents shelf.old) (map string_bytes words.now) }
     ensures given_on { (IsBrokenOff result → ⊥) → HasGivenOn (K.gathered sink.new) }
 {
     let step = match follow(alloc, words, shelf) {

@@ -8,7 +8,7 @@ ghost use Rattle.circus_world.specs.WorldState.{WorldState};
 ghost use Rattle.circus_config.specs.declared.plan.Plan.{Plan};
 ghost use Rattle.circus_program.specs.Answer.{Due, finish};
 ghost use Rattle.circus_program.specs.Replay.{replay_of, picture_of};
-ghost use Rattle.circus_program.specs.Agreeing.{IsAgreed, IsAgreedSoFar, ArePlans};
+ghost use Rattle.circus_program.specs.Agreeing.{IsAgreed, IsAgreedSoFar};
 ghost use Rattle.circus_config.specs.Program.{IsPlan};
 ghost use Rattle.circus_program.specs.Promise.{KeepsPromise, IsKept, IsKeptSoFar, enough_deliveries};
 ghost use Rattle.circus_audit.specs.declared.given.Given.{Given};
@@ -114,15 +114,15 @@ pub fn ends_are_of_worlds()
 {}
 
 /// What is promised is kept of every world to which lines lead from the boot of a plan. So it is of the world of which a
-/// simulation writes where it ends with status 0, if the program is a plan, as each program that is read is; and where a
-/// replay ends too early, of the world to which the lines before lead. Deliveries that leave some of the datagrams are fewer
-/// than twice the segments of the messages that the unreplicated program makes.
+/// simulation writes where it ends with status 0; and where a replay ends too early, of the world to which the lines before
+/// lead. Deliveries that leave some of the datagrams are fewer than twice the segments of the messages that the unreplicated
+/// program makes.
 pub fn promises_are_kept()
     ensures worlds { (plan : Plan) (lines : List Line) (last : WorldState Behaviour)
         → IsPlan plan → (led : AreLed plan lines last) → KeepsPromise plan lines last led }
     ensures done { (contents : List ℕ → Option (List ℕ)) (words : List (List ℕ)) (ending : Ending)
         → IsDueLast contents words (finish ending) → ending.status ≡ Done → AskToSimulate words
-        → ArePlans contents words → IsKept contents words ending.text }
+        → IsKept contents words ending.text }
     ensures refused { (plan : Plan) (lines : List Line)
         → IsPlan plan → (replay_of plan lines).status ≡ BadSchedule
         → IsKeptSoFar plan lines (replay_of plan lines).text }

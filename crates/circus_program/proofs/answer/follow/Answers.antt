@@ -1,8 +1,8 @@
 use Rattle.std.proofs.Common.{map}
 use Rattle.std.specs.String.{string_bytes}
-use Rattle.circus_program.specs.Seen.Planned.{MeanPlans, ReadsPlans, OfContents, PlansOf}
+use Rattle.circus_program.specs.Seen.Known.{AreKnownBy, OfContents, ShortLinesOf}
 use Rattle.circus_program.proofs.AnswerLemmas.{result-of_command, result-of_two, asks-of_command}
-use Rattle.circus_program.proofs.Planned.{then_ok, command_plans, of_two_plans, no_form_plans}
+use Rattle.circus_program.proofs.Known.{holds_ok, then_ok, command_known, of_two_known, no_form_known}
 use Rattle.circus_program.proofs.answer.follow.Goals as goal
 
 pub returns-in-OneFile-clause-due : goal.returns-in-OneFile-clause-due
@@ -15,12 +15,12 @@ returns-in-OneFile-clause-asked g c =
     let asked = c.in-OneFile in
     asks-of_command _ _ _ _ asked.command asked.file.now c.in-Some.ensures.form asked.ensures c.one_file.ensures.asked
 
-pub returns-in-OneFile-clause-planned : goal.returns-in-OneFile-clause-planned
-returns-in-OneFile-clause-planned g c =
+pub returns-in-OneFile-clause-known : goal.returns-in-OneFile-clause-known
+returns-in-OneFile-clause-known g c =
     let shelf = g.S.Shelf.contents c.args.shelf.now in
     let asked = c.in-OneFile in
-    then_ok (OfContents shelf (ReadsPlans asked.command) asked.file.now) (PlansOf shelf (map string_bytes c.args.words.now)) c.one_file.result
-    (command_plans shelf _ _ asked.command asked.file.now c.in-Some.ensures.form asked.ensures) c.one_file.ensures.planned
+    then_ok (OfContents shelf (AreKnownBy asked.command) asked.file.now) (ShortLinesOf shelf (map string_bytes c.args.words.now)) c.one_file.result
+    (command_known shelf _ _ asked.command asked.file.now c.in-Some.ensures.form asked.ensures) c.one_file.ensures.known
 
 pub returns-in-TwoFiles-clause-due : goal.returns-in-TwoFiles-clause-due
 returns-in-TwoFiles-clause-due g c =
@@ -28,12 +28,12 @@ returns-in-TwoFiles-clause-due g c =
     result-of_two (g.S.Shelf.contents c.args.shelf.now) _ _ asked.second asked.program.now asked.file.now c.two_files.result c.in-Some.ensures.form asked.ensures
     c.two_files.ensures.due
 
-pub returns-in-TwoFiles-clause-planned : goal.returns-in-TwoFiles-clause-planned
-returns-in-TwoFiles-clause-planned g c =
+pub returns-in-TwoFiles-clause-known : goal.returns-in-TwoFiles-clause-known
+returns-in-TwoFiles-clause-known g c =
     let shelf = g.S.Shelf.contents c.args.shelf.now in
     let asked = c.in-TwoFiles in
-    then_ok (OfContents shelf MeanPlans asked.program.now) (PlansOf shelf (map string_bytes c.args.words.now)) c.two_files.result
-    (of_two_plans shelf _ _ asked.second asked.program.now asked.file.now c.in-Some.ensures.form asked.ensures) c.two_files.ensures.planned
+    holds_ok (ShortLinesOf shelf (map string_bytes c.args.words.now)) c.two_files.result
+    (of_two_known shelf _ _ asked.second asked.program.now asked.file.now c.in-Some.ensures.form asked.ensures)
 
-pub returns-in_default-clause-planned : goal.returns-in_default-clause-planned
-returns-in_default-clause-planned g c = λ whole. no_form_plans _ _ c.in_default.ensures.none
+pub returns-in_default-clause-known : goal.returns-in_default-clause-known
+returns-in_default-clause-known g c = λ whole. no_form_known _ _ c.in_default.ensures.none

@@ -3,7 +3,7 @@ use Rattle.circus_commands.specs.Seen.Ending.{ending_of}
 use Rattle.circus_commands.specs.Ending.{Ending}
 use Rattle.circus_program.specs.Answer.{finish}
 use Rattle.circus_program.specs.Seen.Asked.{IsDueOfTask}
-use Rattle.circus_program.specs.Seen.Planned.{IsKnownOf}
+use Rattle.circus_program.specs.Seen.Known.{IsKnownOf}
 use Rattle.circus_program.specs.declared.answer.Task.{Task}
 use Rattle.circus_program.proofs.NamedOnce.{named_within}
 use Rattle.circus_program.proofs.answer.of_plan.Goals as goal

@@ -1,9 +1,9 @@
 use Rattle.std.proofs.Common.{refl, subst, [], ◌∷◌}
 use Rattle.circus_program.specs.Seen.Asked.{IsDueOfCommand}
 use Rattle.circus_program.specs.Seen.Step.{due_of}
-use Rattle.circus_program.specs.Seen.Planned.{ReadsPlans}
+use Rattle.circus_program.specs.Seen.Known.{AreKnownBy}
 use Rattle.circus_program.proofs.AnswerLemmas.{fetched-none, step-of_file, noted-none}
-use Rattle.circus_program.proofs.Planned.{of_contents}
+use Rattle.circus_program.proofs.Known.{of_contents}
 use Rattle.circus_program.proofs.answer.one_file.Goals as goal
 
 pub returns-in-Err-Failed-clause-due : goal.returns-in-Err-Failed-clause-due
@@ -18,7 +18,7 @@ returns-clause-due g c =
 pub returns-clause-lack : goal.returns-clause-lack
 returns-clause-lack g c = noted-none _ _ _ c.in_ok-step.step c.in_ok-step.ensures.whole
 
-pub returns-clause-planned : goal.returns-clause-planned
-returns-clause-planned g c = λ none.
-    of_contents (g.S.Shelf.contents c.args.shelf.now) (ReadsPlans c.args.command) c.args.name.now c.in-Ok.bytes c.in-Ok.ensures.told
-    (subst (ReadsPlans c.args.command) c.as_slice.ensures c.in_ok-step.ensures.planned)
+pub returns-clause-known : goal.returns-clause-known
+returns-clause-known g c = λ none.
+    of_contents (g.S.Shelf.contents c.args.shelf.now) (AreKnownBy c.args.command) c.args.name.now c.in-Ok.bytes c.in-Ok.ensures.told
+    (subst (AreKnownBy c.args.command) c.as_slice.ensures c.in_ok-step.ensures.known)

@@ -1,8 +1,6 @@
 use Rattle.std.proofs.Common.{[], ◌∷◌, subst}
 use Rattle.circus_program.specs.Seen.Step.{due_of, IsStepOfProgram}
-use Rattle.circus_program.specs.Seen.Planned.{MeanPlans}
 use Rattle.circus_program.proofs.AnswerLemmas.{step-of_two, asks-more}
-use Rattle.circus_program.proofs.Planned.{of_contents}
 use Rattle.circus_program.proofs.answer.two_files.Goals as goal
 
 pub returns-clause-due : goal.returns-clause-due
@@ -18,7 +16,3 @@ returns-clause-asked g c =
 pub returns-in_err-step-clause-asked : goal.returns-in_err-step-clause-asked
 returns-in_err-step-clause-asked g c =
     asks-more _ _ _ c.args.program.now (c.args.file.now ∷ []) c.in-Ok.ensures.fetched c.in_err-step.ensures.asked
-
-pub returns-clause-planned : goal.returns-clause-planned
-returns-clause-planned g c = λ none.
-    of_contents (g.S.Shelf.contents c.args.shelf.now) MeanPlans c.args.program.now c.in-Ok.bytes c.in-Ok.ensures.told (subst MeanPlans c.as_slice.ensures c.in_ok-step.ensures.planned)

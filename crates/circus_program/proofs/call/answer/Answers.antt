@@ -1,6 +1,6 @@
 use Rattle.circus_outside.specs.Faults.{Rose}
 use Rattle.circus_program.proofs.PutLemmas.{answered, unserved}
-use Rattle.circus_program.proofs.Planned.{end_lacks_none}
+use Rattle.circus_program.proofs.Known.{end_lacks_none}
 use Rattle.circus_program.proofs.call.answer.Goals as goal
 
 pub returns-clause-answer : goal.returns-clause-answer
@@ -16,7 +16,7 @@ returns-clause-answer g c =
 pub returns-clause-link : goal.returns-clause-link
 returns-clause-link g c = λ none. c.write-status.ensures.link (unserved _ _ c.in-Ok.step c.in-Ok.ensures.due none)
 
-pub returns-clause-planned : goal.returns-clause-planned
-returns-clause-planned g c = λ ends.
-    c.in-Ok.ensures.planned
+pub returns-clause-known : goal.returns-clause-known
+returns-clause-known g c = λ ends.
+    c.in-Ok.ensures.known
     (end_lacks_none c.in-Ok.step _ _ _ _ _ _ c.write-status.result c.finish.result _ c.write-status.ensures.put c.finish.ensures.status ends)

@@ -1,18 +1,13 @@
--- What is known of a program that was read: it is a plan, and the lines of a sample of it are short.
+-- What is known of a program that was read: the lines of a sample of it are short.
 use Rattle.std.specs.Prelude.{ℕ, ◌≡◌, Option, Some, List, IfSome}
 use Rattle.circus_config.specs.declared.plan.Plan.{Plan}
-use Rattle.circus_config.specs.Program.{IsProgramOf, IsPlan}
+use Rattle.circus_config.specs.Program.{IsProgramOf}
 use Rattle.circus_program.specs.declared.answer.Command.{Command}
 use Rattle.circus_program.specs.declared.answer.Command.TheVariants.{End, OfPlan}
 use Rattle.circus_program.specs.declared.answer.Task.{Task}
 use Rattle.circus_program.specs.declared.answer.Task.TheVariants.{Sample, Lines, Settle, Node}
 use Rattle.circus_program.specs.Last.{IsLines}
-use Rattle.circus_program.specs.Agreeing.{ArePlans}
 use Rattle.circus_program.specs.Replayed.{AreShort}
-
--- what the bytes mean is a plan
-abbrev pub MeanPlans : List ℕ → Type 0
-MeanPlans bytes = (plan : Plan) → IsProgramOf bytes plan → IsPlan plan
 
 -- what is known of a plan once this was done with it
 abbrev pub IsKnownOf : Task → Plan → Type 0
@@ -26,19 +21,18 @@ abbrev pub AreKnownOf : Task → List ℕ → Type 0
 AreKnownOf task bytes = (plan : Plan) → IsProgramOf bytes plan → IsKnownOf task plan
 
 -- where the command reads them as a program
-abbrev pub ReadsPlans : Command → List ℕ → Type 0
-ReadsPlans (End _) bytes = Unit {0}
-ReadsPlans (OfPlan task) bytes = MeanPlans bytes × AreKnownOf task bytes
+abbrev pub AreKnownBy : Command → List ℕ → Type 0
+AreKnownBy (End _) bytes = Unit {0}
+AreKnownBy (OfPlan task) bytes = AreKnownOf task bytes
 
 -- this holds of what the shelf has under the name, where it tells its contents
 abbrev pub OfContents : Option (List ℕ → Option (List ℕ)) → (List ℕ → Type 0) → List ℕ → Type 0
 OfContents shelf Of name = IfSome shelf (λ contents. (bytes : List ℕ) → contents name ≡ Some bytes → Of bytes)
 
--- what words ask to simulate is a plan, and lines that they ask for are short
-pub record AreKnown (contents : List ℕ → Option (List ℕ)) (words : List (List ℕ)) : Type 0 where
-  pub plans : ArePlans contents words
-  pub short : (plan : Plan) (seed steps : ℕ) → IsLines contents words plan seed steps → AreShort plan seed steps
+-- lines that words ask for are short
+abbrev pub AreShortLines : (List ℕ → Option (List ℕ)) → List (List ℕ) → Type 0
+AreShortLines contents words = (plan : Plan) (seed steps : ℕ) → IsLines contents words plan seed steps → AreShort plan seed steps
 
 -- where the shelf tells its contents
-abbrev pub PlansOf : Option (List ℕ → Option (List ℕ)) → List (List ℕ) → Type 0
-PlansOf shelf words = IfSome shelf (λ contents. AreKnown contents words)
+abbrev pub ShortLinesOf : Option (List ℕ → Option (List ℕ)) → List (List ℕ) → Type 0
+ShortLinesOf shelf words = IfSome shelf (λ contents. AreShortLines contents words)
