@@ -19,7 +19,6 @@ use Rattle.circus_audit.specs.declared.given.GivenEvent.{GivenEvent}
 use Rattle.circus_audit.specs.declared.given.Given.{Given}
 use Rattle.circus_audit.specs.declared.noted.Noted as heard
 use Rattle.circus_audit.specs.declared.noted.Happened.{Happened}
-use Rattle.circus_audit.specs.declared.setting.Hosted.{Hosted}
 use Rattle.circus_audit.specs.declared.stage.Stage.TheVariants.{Events, Done}
 use Rattle.circus_audit.specs.Seen.Answers.{from_some, whole}
 use Rattle.circus_audit.specs.Seen.Names.{number_of_name, name_at}

@@ -9,7 +9,6 @@ use Rattle.circus_modules.specs.Signatures.{interface_numbers, signature_of}
 use Rattle.circus_node.specs.Accepting.{troupe_at}
 use Rattle.circus_config.specs.declared.plan.Plan.{Plan}
 use Rattle.circus_audit.specs.Possible.{declared_by}
-use Rattle.circus_audit.specs.declared.setting.Hosted.{Hosted}
 use Rattle.circus_audit.specs.Seen.Reading.{hosted_as, hosted_by}
 
 numbers_are : (modules : List ResolvedModule) → interface_numbers (map module_as modules) ≡ map (λ (m : ResolvedModule). m.interface) modules

@@ -29,7 +29,6 @@ use Rattle.circus_audit.specs.Seen.Answers.{from_some}
 use Rattle.circus_audit.specs.Seen.Breaking.{all_lines}
 use Rattle.circus_audit.specs.Seen.Outlook.{can_run, has_procedures, any_asks, nothing_expected, bad_by_own, bad_in, bad_line}
 use Rattle.circus_audit.specs.Seen.Reading.{has_root, own_read, beginning, given_by, stage_behind, rest_read, hosted_as, hosted_by, lines_read, record_read}
-use Rattle.circus_audit.proofs.OneLine.{is_clean}
 use Rattle.circus_audit.proofs.SoundingRecord.{joined}
 use Rattle.circus_audit.proofs.CompletingRecord.{HasRows}
 use Rattle.circus_audit.proofs.GoingOn.{either_left, either_right, get_all, IsKnown, one_passes}
