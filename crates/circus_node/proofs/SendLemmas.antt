@@ -74,10 +74,10 @@ concluded_is s acting gives came r h =
     ∙ same_parts r.0.wire acting r.1.gives _ _ _ _ _ _ _ _ (sym h.deployment) (sym h.dropped) (sym h.suspects) (sym h.differences)
 
 -- a fault of what was concluded is one of the node's
-pub concluded_fault : {M : Type 0} (s : Station) (acting : Acting M) (gives : List Give) (came : Consequences) (f : StepFault)
-    → IsConcluded (Err f) s gives came → IsEnded (Err f) (conclude_step (node_of s acting) gives came)
-concluded_fault s acting gives came (fault.Spent node) is = ap (end_step (node_of s acting) came) is
-concluded_fault s acting gives came fault.NoMemory is = tt
+pub concluded_fault : {M : Type 0} (s t : Station) (acting : Acting M) (gives : List Give) (came : Consequences) (f : StepFault)
+    → IsConcluded (Err f) s t gives came → IsEnded (Err f) (conclude_step (node_of s acting) gives came)
+concluded_fault s t acting gives came (fault.Spent node) is = ap (end_step (node_of s acting) came) is
+concluded_fault s t acting gives came fault.NoMemory is = tt
 
 ticked_with : {M : Type 0} (acting : Acting M) (gives hs : List Give) (d e : Deployment) (w v : WireState Purpose) (n m : ℕ) (ss ts : List ℕ) (ds es : List Difference)
     → gives ≡ hs → d ≡ e → w ≡ v → n ≡ m → ss ≡ ts → ds ≡ es → node_with w acting gives d n ss ds ≡ node_with v acting hs e m ts es
@@ -90,9 +90,9 @@ pub ticked_is : {M : Type 0} (s : Station) (acting : Acting M) (r : Station × O
 ticked_is s acting r h =
     ticked_with acting _ _ _ _ _ _ _ _ _ _ _ _ (sym h.gives) (sym h.deployment) (sym h.wire) (sym h.dropped) (sym h.suspects) (sym h.differences)
 
-pub ticked_fault : {M : Type 0} (s : Station) (acting : Acting M) (f : StepFault) → IsTicked (Err f) s → IsEnded (Err f) (tick_node (node_of s acting))
-ticked_fault s acting (fault.Spent node) is = absurd is
-ticked_fault s acting fault.NoMemory is = tt
+pub ticked_fault : {M : Type 0} (s t : Station) (acting : Acting M) (f : StepFault) → IsTicked (Err f) s t → IsEnded (Err f) (tick_node (node_of s acting))
+ticked_fault s t acting (fault.Spent node) is = absurd is
+ticked_fault s t acting fault.NoMemory is = tt
 
 -- memory ran out
 pub lost_memory : {M : Type 0} (r : Result (NodeState M × Outputs) StepFault) (end : Ended M) (f : StepFault) → r ≡ Err f → f ≡ fault.NoMemory → IsEnded r end

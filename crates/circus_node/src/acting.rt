@@ -75,10 +75,9 @@ impl Consequences {
     }
 }
 
-// A member stands in a box, so that what a node is moves as a few words (docs/PROOFS.md, "Speed").
 #[derive(Drop)]
 enum Role<M: Module> {
-    Member(Box<Member<M>>),
+    Member(Member<M>),
     Ringmaster(Ring),
 }
 
@@ -136,21 +135,14 @@ impl<M: Module> Acting<M> {
                     hosted,
                 )?;
                 let came = Consequences::of(alloc, effects, None)?;
-                let acting = Acting::new_member(alloc, member)?;
-                Ok((acting, came))
+                Ok((Acting::member(member), came))
             }
             _ => Ok((Acting::ringmaster(ring), Consequences::nothing(alloc))),
         }
     }
 
-    fn new_member(alloc: Global, member: Member<M>) -> Result<Self, NoMemory>
-        ensures { IfOk result (λ acting. acting ≡ hosting member) }
-    {
-        Ok(Acting::member(Box::new(alloc, member)?))
-    }
-
-    fn member(member: Box<Member<M>>) -> Self
-        ensures { result ≡ hosting member.value }
+    fn member(member: Member<M>) -> Self
+        ensures { result ≡ hosting member }
     {
         Acting {
             role: Role::Member(member),
@@ -207,7 +199,7 @@ impl<M: Module> Acting<M> {
         let Acting { role } = self;
         match role {
             Role::Member(member) => {
-                match accept(alloc, deployment, &*member, from, heard)? {
+                match accept(alloc, deployment, &member, from, heard)? {
                     Some(occurrence) => happen(alloc, member, at, occurrence),
                     None => Ok((Acting::member(member), Consequences::a_drop(alloc))),
                 }
@@ -293,22 +285,20 @@ impl<M: Module> Acting<M> {
 // Something happens to a member in a step.
 fn happen<M: Module>(
     alloc: Global,
-    member: Box<Member<M>>,
+    member: Member<M>,
     at: u64,
     occurrence: Occurrence,
 ) -> Result<(Acting<M>, Consequences), NoMemory>
-    requires { CanHappen (M.declared member.value.performing.hosted) member.value occurrence }
+    requires { CanHappen (M.declared member.performing.hosted) member occurrence }
     ensures acting { IfOk result (λ made.
-        made.0 ≡ (making.happens M.declared M.turn at member.value occurrence).acting) }
+        made.0 ≡ (making.happens M.declared M.turn at member occurrence).acting) }
     ensures came { IfOk result (λ made.
-        made.1 ≡ (making.happens M.declared M.turn at member.value occurrence).came) }
-    ensures kept { (d : Deployed) → IsMemberOf d member.value
-        → IfOk result (λ made. IsActing d made.0) }
+        made.1 ≡ (making.happens M.declared M.turn at member occurrence).came) }
+    ensures kept { (d : Deployed) → IsMemberOf d member → IfOk result (λ made. IsActing d made.0) }
 {
-    let (next, effects, difference) = Box::into_inner(member).step(at, occurrence)?;
+    let (member, effects, difference) = member.step(at, occurrence)?;
     let came = Consequences::of(alloc, effects, difference)?;
-    let acting = Acting::new_member(alloc, next)?;
-    Ok((acting, came))
+    Ok((Acting::member(member), came))
 }
 
 // The Ringmaster hears a message: a request is performed.

@@ -34,7 +34,7 @@ use std::marker::Model;
 /// Clauses see the program's troupes and nodes, the pairs, what the node does, and how much it has dropped;
 /// `specs/Step.antt` says what a step does to them.
 pub struct NodeCore<M: Module> {
-    station: Station,
+    station: Box<Station>,
     acting: Acting<M>,
 }
 
@@ -58,9 +58,9 @@ impl<M: Module> Model for NodeCore<M> {
 
     ghost coded = { node_code M.code };
 
-    ghost view = { λ a. node_of a.station a.acting };
+    ghost view = { λ a. node_of a.station.value a.acting };
 
-    ghost invariant = { λ a. IsStation a.station × IsActing a.station.deployment a.acting };
+    ghost invariant = { λ a. let s = a.station.value in IsStation s × IsActing s.deployment a.acting };
 }
 
 impl<M: Module> NodeCore<M> {
@@ -204,9 +204,10 @@ impl<M: Module> NodeCore<M> {
             mut station,
             acting,
         } = self;
-        let (gives, heard) = station.receive(from, bytes)?;
-        let alloc = station.alloc;
-        let (acting, came) = acting.hear(alloc, &station.deployment, at, from, heard)?;
+        let own = &mut *station;
+        let (gives, heard) = own.receive(from, bytes)?;
+        let alloc = own.alloc;
+        let (acting, came) = acting.hear(alloc, &own.deployment, at, from, heard)?;
         NodeCore::conclude(station, gives, acting, came)
     }
 
@@ -215,8 +216,11 @@ impl<M: Module> NodeCore<M> {
         ensures ended { step.IsEnded result (step.tick_node self) }
         ensures rest { IfOk result (λ ticked. MemberHasGoneOn ticked.0.acting) }
     {
-        let NodeCore { station, acting } = self;
-        let (station, outputs) = station.tick()?;
+        let NodeCore {
+            mut station,
+            acting,
+        } = self;
+        let outputs = station.tick()?;
         Ok((NodeCore { station, acting }, outputs))
     }
 
@@ -230,8 +234,9 @@ impl<M: Module> NodeCore<M> {
             mut station,
             acting,
         } = self;
-        let alloc = station.alloc;
-        station.wire.stop(node);
+        let own = &mut *station;
+        let alloc = own.alloc;
+        own.wire.stop(node);
         let (acting, came) = acting.learn_down(alloc, at, node)?;
         NodeCore::conclude(station, Gives::new(alloc), acting, came)
     }
@@ -249,18 +254,18 @@ impl<M: Module> NodeCore<M> {
 
     // What came of a step is sent, behind what was given already.
     fn conclude(
-        station: Station,
+        mut station: Box<Station>,
         gives: Gives,
         acting: Acting<M>,
         came: Consequences,
     ) -> Result<(Self, Outputs), StepFault>
-        requires station { IsStation station }
-        requires acting { IsActing station.deployment acting }
+        requires station { IsStation station.value }
+        requires acting { IsActing station.value.deployment acting }
         ensures ended { step.IsEnded result
-            (step.conclude_step (node_of station acting) gives came) }
+            (step.conclude_step (node_of station.value acting) gives came) }
         ensures rest { IfOk result (λ concluded. MemberHasGoneOn concluded.0.acting) }
     {
-        let (station, outputs) = station.conclude(gives, came)?;
+        let outputs = station.conclude(gives, came)?;
         Ok((NodeCore { station, acting }, outputs))
     }
 }

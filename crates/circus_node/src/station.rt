@@ -39,19 +39,20 @@ impl Drop for Station {
 }
 
 impl Station {
-    /// That of a node before anything has happened.
-    pub fn new(alloc: Global, deployment: &Deployment, node: u16) -> Result<Self, NoMemory>
+    /// That of a node before anything has happened, in a box, so that a step moves a word (docs/PROOFS.md, "Speed").
+    pub fn new(alloc: Global, deployment: &Deployment, node: u16) -> Result<Box<Self>, NoMemory>
         requires deployment { IsDeployment deployment.now }
         requires node { node < length deployment.now.nodes }
-        ensures { IfOk result (stations.IsFresh deployment.now node) }
+        ensures { IfOk result (λ station. stations.IsFresh deployment.now node station.value) }
     {
-        Ok(Station {
+        let station = Station {
             alloc,
             deployment: deployment.copy()?,
             node,
             wire: Wire::new(alloc, node, deployment.nodes.len(), deployment.format)?,
             dropped: 0,
-        })
+        };
+        Ok(Box::new(alloc, station)?)
     }
 
     /// A datagram of another node comes: what is sent at once, and what is heard. After `NoMemory` it may have been taken.
@@ -65,14 +66,10 @@ impl Station {
         Ok((gives, delivery.heard))
     }
 
-    /// What came of a step is sent, behind what was given already.
-    pub fn conclude(
-        mut self,
-        mut gives: Gives,
-        came: Consequences,
-    ) -> Result<(Self, Outputs), StepFault>
-        requires { stations.IsStation self }
-        ensures { stations.IsConcluded result self gives came }
+    /// What came of a step is sent, behind what was given already. After a fault some of it may have been handed over.
+    pub fn conclude(&mut self, mut gives: Gives, came: Consequences) -> Result<Outputs, StepFault>
+        requires { stations.IsStation self.old }
+        ensures { stations.IsConcluded result self.old self.new gives came }
     {
         let Consequences {
             effects,
@@ -83,26 +80,24 @@ impl Station {
         if dropped {
             self.dropped = self.dropped.saturating_add(1);
         }
-        let outputs = Outputs {
+        Ok(Outputs {
             gives,
             suspects: ListOf::new(self.alloc),
             differences,
-        };
-        Ok((self, outputs))
+        })
     }
 
-    /// A tick comes.
-    pub fn tick(mut self) -> Result<(Self, Outputs), StepFault>
-        ensures { stations.IsTicked result self }
+    /// A tick comes. After `NoMemory` it may have come to some pairs.
+    pub fn tick(&mut self) -> Result<Outputs, StepFault>
+        ensures { stations.IsTicked result self.old self.new }
     {
         let (batches, suspects) = self.wire.tick()?;
         let mut gives = Gives::new(self.alloc);
         add_all_gives(batches, &mut gives)?;
-        let outputs = Outputs {
+        Ok(Outputs {
             gives,
             suspects,
             differences: ListOf::new(self.alloc),
-        };
-        Ok((self, outputs))
+        })
     }
 }

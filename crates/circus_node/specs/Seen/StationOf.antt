@@ -53,10 +53,10 @@ pub record HasSent (s : Station) (gives : List Give) (came : Consequences) (conc
   pub suspects : concluded.1.suspects ≡ []
   pub differences : concluded.1.differences ≡ came.differences
 
-abbrev pub IsConcluded : Result (Station × Outputs) StepFault → Station → List Give → Consequences → Type 0
-IsConcluded (Ok concluded) s gives came = HasSent s gives came concluded
-IsConcluded (Err (fault.Spent node)) s gives came = all_handed (sent s.wire gives) came.effects ≡ spent node
-IsConcluded (Err fault.NoMemory) s gives came = Unit {0}
+abbrev pub IsConcluded : Result Outputs StepFault → Station → Station → List Give → Consequences → Type 0
+IsConcluded (Ok outputs) s t gives came = HasSent s gives came (t, outputs)
+IsConcluded (Err (fault.Spent node)) s t gives came = all_handed (sent s.wire gives) came.effects ≡ spent node
+IsConcluded (Err fault.NoMemory) s t gives came = Unit {0}
 
 -- a tick came
 pub record HasTicked (s : Station) (ticked : Station × Outputs) : Type 0 where
@@ -69,7 +69,7 @@ pub record HasTicked (s : Station) (ticked : Station × Outputs) : Type 0 where
   pub suspects : ticked.1.suspects ≡ suspected_by_tick s.wire
   pub differences : ticked.1.differences ≡ []
 
-abbrev pub IsTicked : Result (Station × Outputs) StepFault → Station → Type 0
-IsTicked (Ok ticked) s = HasTicked s ticked
-IsTicked (Err (fault.Spent node)) s = ⊥
-IsTicked (Err fault.NoMemory) s = Unit {0}
+abbrev pub IsTicked : Result Outputs StepFault → Station → Station → Type 0
+IsTicked (Ok outputs) s t = HasTicked s (t, outputs)
+IsTicked (Err (fault.Spent node)) s t = ⊥
+IsTicked (Err fault.NoMemory) s t = Unit {0}

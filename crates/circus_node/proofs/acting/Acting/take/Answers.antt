@@ -10,10 +10,9 @@ use Rattle.circus_wire.specs.declared.delivery.Heard.{Heard}
 use Rattle.circus_member_rules.specs.declared.occurrence.Occurrence.{Occurrence}
 use Rattle.circus_member_rules.specs.declared.occurrence.Purpose.{Purpose}
 use Rattle.circus_member_rules.specs.MemberState.{MemberState}
-use Rattle.circus_member_rules.specs.Happening.{CanHappen}
 use Rattle.circus_node.specs.declared.acting.Consequences.{Consequences}
 use Rattle.circus_node.specs.NodeState.{Acting, member, ringmaster}
-use Rattle.circus_node.specs.Accepting.{occurrence_of_heard, IsMemberOf}
+use Rattle.circus_node.specs.Accepting.{occurrence_of_heard}
 use Rattle.circus_node.specs.Making.{Made, refuse, happens, arrives}
 use Rattle.circus_node.specs.Seen.ActingOf.{acting_of}
 use Rattle.circus_node.specs.Seen.Kept.{IsActing}
@@ -30,7 +29,6 @@ made_by declared turn d at from heard m self o p own is so =
 pub accept-requires : goal.accept-requires
 accept-requires g c =
     let own = sym (ap acting_of c.in-Member.is) ∙ c.self.view_is in
-    subst (λ (m : MemberState g.row.M.Denot). IsMemberOf c.args.deployment.now m) (sym c.deref.ensures)
     (subst (λ (a : Acting g.row.M.Denot). IsActing c.args.deployment.now a) (sym own) c.requires).0
 
 pub returns-in-Some-clause-acting : goal.returns-in-Some-clause-acting
@@ -38,7 +36,7 @@ returns-in-Some-clause-acting g c =
     let M = g.M.Module in
     let own = sym (ap acting_of c.in-Member.is) ∙ c.self.view_is in
     subst (λ (made : Made g.row.M.Denot). IfOk c.happen.result (λ (r : Acting g.row.M.Denot × Consequences). r.0 ≡ made.acting))
-    (made_by M.declared M.turn c.args.deployment.now c.args.at c.args.from c.args.heard _ c.args.self _ _ own (c.in_ok-occurrence-in-Member.ensures.accepted ∙ ap (λ (m : MemberState g.row.M.Denot). occurrence_of_heard c.args.deployment.now (M.declared m.performing.hosted) m c.args.from c.args.heard) c.deref.ensures) c.in-Some.is)
+    (made_by M.declared M.turn c.args.deployment.now c.args.at c.args.from c.args.heard _ c.args.self _ _ own c.in_ok-occurrence-in-Member.ensures.accepted c.in-Some.is)
     c.happen.ensures.acting
 
 pub returns-in-Some-clause-came : goal.returns-in-Some-clause-came
@@ -46,7 +44,7 @@ returns-in-Some-clause-came g c =
     let M = g.M.Module in
     let own = sym (ap acting_of c.in-Member.is) ∙ c.self.view_is in
     subst (λ (made : Made g.row.M.Denot). IfOk c.happen.result (λ (r : Acting g.row.M.Denot × Consequences). r.1 ≡ made.came))
-    (made_by M.declared M.turn c.args.deployment.now c.args.at c.args.from c.args.heard _ c.args.self _ _ own (c.in_ok-occurrence-in-Member.ensures.accepted ∙ ap (λ (m : MemberState g.row.M.Denot). occurrence_of_heard c.args.deployment.now (M.declared m.performing.hosted) m c.args.from c.args.heard) c.deref.ensures) c.in-Some.is)
+    (made_by M.declared M.turn c.args.deployment.now c.args.at c.args.from c.args.heard _ c.args.self _ _ own c.in_ok-occurrence-in-Member.ensures.accepted c.in-Some.is)
     c.happen.ensures.came
 
 pub returns-in-Some-clause-kept : goal.returns-in-Some-clause-kept
@@ -60,7 +58,7 @@ returns-in-None-clause-acting g c =
     let own = sym (ap acting_of c.in-Member.is) ∙ c.self.view_is in
     c.member.ensures
     ∙ ap (λ (made : Made g.row.M.Denot). made.acting)
-    (made_by M.declared M.turn c.args.deployment.now c.args.at c.args.from c.args.heard _ c.args.self _ _ own (c.in_ok-occurrence-in-Member.ensures.accepted ∙ ap (λ (m : MemberState g.row.M.Denot). occurrence_of_heard c.args.deployment.now (M.declared m.performing.hosted) m c.args.from c.args.heard) c.deref.ensures) c.in-None.is)
+    (made_by M.declared M.turn c.args.deployment.now c.args.at c.args.from c.args.heard _ c.args.self _ _ own c.in_ok-occurrence-in-Member.ensures.accepted c.in-None.is)
 
 pub returns-in-None-clause-came : goal.returns-in-None-clause-came
 returns-in-None-clause-came g c =
@@ -68,7 +66,7 @@ returns-in-None-clause-came g c =
     let own = sym (ap acting_of c.in-Member.is) ∙ c.self.view_is in
     c.a_drop.ensures
     ∙ ap (λ (made : Made g.row.M.Denot). made.came)
-    (made_by M.declared M.turn c.args.deployment.now c.args.at c.args.from c.args.heard _ c.args.self _ _ own (c.in_ok-occurrence-in-Member.ensures.accepted ∙ ap (λ (m : MemberState g.row.M.Denot). occurrence_of_heard c.args.deployment.now (M.declared m.performing.hosted) m c.args.from c.args.heard) c.deref.ensures) c.in-None.is)
+    (made_by M.declared M.turn c.args.deployment.now c.args.at c.args.from c.args.heard _ c.args.self _ _ own c.in_ok-occurrence-in-Member.ensures.accepted c.in-None.is)
 
 pub returns-in-None-clause-kept : goal.returns-in-None-clause-kept
 returns-in-None-clause-kept g c =
@@ -76,8 +74,7 @@ returns-in-None-clause-kept g c =
     subst (λ (a : Acting g.row.M.Denot). IsActing c.args.deployment.now a) (sym (c.member.ensures ∙ own)) c.requires
 
 pub happen-requires : goal.happen-requires
-happen-requires g c =
-    subst (λ (m : MemberState g.row.M.Denot). CanHappen (g.M.Module.declared m.performing.hosted) m c.in-Some.occurrence) c.deref.ensures (rw c.in-Some.is at c.in_ok-occurrence-in-Member.ensures.can)
+happen-requires g c = rw c.in-Some.is at c.in_ok-occurrence-in-Member.ensures.can
 
 pub perform_heard-requires : goal.perform_heard-requires
 perform_heard-requires g c =

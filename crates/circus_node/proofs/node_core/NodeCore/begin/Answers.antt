@@ -34,7 +34,7 @@ returns-in_err-station-clause-ended g c =
     lost_memory c.from_residual-in_err-station.result (boot_node g.M.Module.declared g.M.Module.turn g.M.Module.first c.args.deployment.now c.args.module c.args.node) p.0 p.1 p.2
 
 pub conclude-requires-clause-station : goal.conclude-requires-clause-station
-conclude-requires-clause-station g c = fresh_stands c.args.deployment.now c.args.node c.in_ok-station.station c.requires.deployment c.in_ok-station.ensures
+conclude-requires-clause-station g c = fresh_stands c.args.deployment.now c.args.node c.in_ok-station.station.value c.requires.deployment c.in_ok-station.ensures
 
 pub conclude-requires-clause-acting : goal.conclude-requires-clause-acting
 conclude-requires-clause-acting g c =
@@ -44,7 +44,7 @@ conclude-requires-clause-acting g c =
 pub returns-clause-ended : goal.returns-clause-ended
 returns-clause-ended g c =
     let d = c.args.deployment.now in
-    let s : Station = c.in_ok-station.station in
+    let s : Station = c.in_ok-station.station.value in
     let fresh = c.in_ok-station.ensures in
     let made : Made g.row.M.Denot = made_at_boot g.M.Module.declared g.M.Module.turn g.M.Module.first d (home_of d c.args.node) c.args.module in
     let same : made_at_boot g.M.Module.declared g.M.Module.turn g.M.Module.first d c.in_ok-home.home c.args.module ≡ made =

@@ -14,12 +14,12 @@ pub conclude-requires-clause-station : goal.conclude-requires-clause-station
 conclude-requires-clause-station g c = c.self.invariant.0
 
 pub conclude-requires-clause-acting : goal.conclude-requires-clause-acting
-conclude-requires-clause-acting g c = c.in_ok-acting.ensures.kept c.self.inside.station.deployment c.self.invariant.1
+conclude-requires-clause-acting g c = c.in_ok-acting.ensures.kept c.self.inside.station.value.deployment c.self.invariant.1
 
 pub returns-clause-ended : goal.returns-clause-ended
 returns-clause-ended g c =
     let made = is_told_to_join g.M.Module.declared g.M.Module.turn c.args.at c.self.inside.acting in
-    let s = c.self.inside.station in
+    let s = c.self.inside.station.value in
     subst (λ n. IsEnded c.conclude.result (join_troupe g.M.Module.declared g.M.Module.turn c.args.at n)) c.self.view_is
     (concluded_as c.conclude.result (record { deployment = s.deployment; wire = s.wire; acting = made.acting; dropped = s.dropped }) s c.in_ok-acting.acting c.new.result [] c.in_ok-acting.came made.came
     (node_is s c.in_ok-acting.acting made.acting s.deployment s.wire s.dropped refl refl c.in_ok-acting.ensures.acting refl)
