@@ -1,6 +1,6 @@
 -- Some record of a plan has the lines of a text before the one that reading answers.
 use Rattle.std.specs.List.{AllByRecursion}
-use Rattle.std.specs.Prelude.{option_and_then, Err}
+use Rattle.std.specs.Prelude.{option_and_then, Result, Ok, Err}
 use Rattle.std.proofs.Common.{◌≡◌, ◌∙◌, ℕ, zero, suc, ◌+◌, ◌<◌, ◌^◌, inl, inr, Bool, true, false, List, [], ◌∷◌, ◌++◌, length, map, slice_get, take, codes, Option, Some, None, option_map, refl, sym, ap, subst, arith, length-append}
 use Rattle.std.proofs.lemmas.List.{length-map}
 use Rattle.circus_text.specs.Form.{IsWord}
@@ -15,10 +15,12 @@ use Rattle.circus_modules.specs.Signatures.{interface_numbers, signature_of}
 use Rattle.circus_node.specs.Accepting.{troupe_at}
 use Rattle.circus_config.specs.declared.plan.Plan.{Plan}
 use Rattle.circus_config.specs.Program.{IsPlan}
-use Rattle.circus_audit.specs.Answer.{or_bad, record_answer}
-use Rattle.circus_audit.specs.BadLine.{Begins, IsBadLine}
+use Rattle.circus_audit.specs.Answer.{or_bad, record_answer, IsAnswer}
+use Rattle.circus_audit.specs.BadLine.{Begins, IsBadLine, IsBadIn}
 use Rattle.circus_audit.specs.Possible.{declared_by}
 use Rattle.circus_audit.specs.TextPieces.{whole, pieces}
+use Rattle.circus_audit.specs.declared.fault.RecordFault.{RecordFault}
+use Rattle.circus_audit.specs.declared.fault.RecordFault.TheVariants.{BadLine, NoMemory}
 use Rattle.circus_audit.specs.declared.given.Given.{Given}
 use Rattle.circus_audit.specs.declared.noted.Differing.{Differing}
 use Rattle.circus_audit.specs.Seen.Names.{name_at}
@@ -236,3 +238,9 @@ answer_is_bad plan text zero is named words few bad = by_read (record_read plan 
         let one = one_at_least plan (pieces text) in
         omega (arith, number, one)
 answer_is_bad plan text (suc before) is named words few bad = (some_begins plan text before is named words few bad, none_begins plan text (suc before) is named words few bad)
+
+-- what reading refuses is bad
+pub bad_in_text : (plan : Plan) (text : List ℕ) (r : Result Given RecordFault) → IsPlan plan → plan.names ≡ map (λ (m : ModuleMeant). m.name) (map module_as plan.checked.modules) → AllByRecursion IsWord plan.names → length text < 4294967295 → IsAnswer r (record_answer plan text) → IsBadIn plan text r
+bad_in_text plan text (Ok given) is named words few answer = tt
+bad_in_text plan text (Err (BadLine line)) is named words few answer = answer_is_bad plan text line is named words few answer
+bad_in_text plan text (Err NoMemory) is named words few answer = tt

@@ -1,7 +1,9 @@
 -- The first line of a text that no record of a node of a program goes on with.
-use Rattle.std.specs.Prelude.{◌≡◌, ℕ, zero, suc, List, take}
+use Rattle.std.specs.Prelude.{◌≡◌, ℕ, zero, suc, List, take, Result, Ok, Err}
 use Rattle.circus_config.specs.declared.plan.Plan.{Plan}
 use Rattle.circus_audit.specs.declared.given.Given.{Given}
+use Rattle.circus_audit.specs.declared.fault.RecordFault.{RecordFault}
+use Rattle.circus_audit.specs.declared.fault.RecordFault.TheVariants.{BadLine, NoMemory}
 use Rattle.circus_audit.specs.TextPieces.{pieces}
 use Rattle.circus_audit.specs.RecordText.{IsRecordText}
 
@@ -17,3 +19,9 @@ pub record Begins (plan : Plan) (text : List ℕ) (lines : ℕ) : Type 0 where
 abbrev pub IsBadLine : Plan → List ℕ → ℕ → Type 0
 IsBadLine plan text zero = ⊥
 IsBadLine plan text (suc before) = Begins plan text before × (Begins plan text (suc before) → ⊥)
+
+-- where reading refuses a line, it is the bad one
+abbrev pub IsBadIn : Plan → List ℕ → Result Given RecordFault → Type 0
+IsBadIn plan text (Ok given) = Unit {0}
+IsBadIn plan text (Err (BadLine line)) = IsBadLine plan text line
+IsBadIn plan text (Err NoMemory) = Unit {0}

@@ -5,6 +5,7 @@ ghost use Rattle.circus_text.specs.Form.{IsWord};
 ghost use Rattle.circus_check.specs.Meaning.{ModuleMeant};
 ghost use Rattle.circus_check.specs.Resolved.{module_as};
 ghost use Rattle.circus_config.specs.Program.{IsPlan};
+ghost use Rattle.circus_audit.specs.BadLine.{IsBadIn};
 ghost use Rattle.circus_audit.specs.RecordText.{IsRecordText};
 ghost use Rattle.circus_audit.specs.Seen.Reading as reading;
 ghost use Rattle.circus_audit.specs.Seen.Outlook as looking;
@@ -125,6 +126,7 @@ pub fn read_record(alloc: Global, bytes: &[u8], plan: &Plan) -> Result<Given, Re
         ≡ map (λ (m : ModuleMeant). m.name) (map module_as plan.now.checked.modules) }
     requires words { AllByRecursion IsWord plan.now.names }
     ensures given { IfOk result (λ given. IsRecordText plan.now given bytes.now) }
+    ensures bad { IsBadIn plan.now bytes.now result }
     ensures answer { IsAnswer result (record_answer plan.now bytes.now) }
 {
     read_lines(alloc, bytes, plan)
