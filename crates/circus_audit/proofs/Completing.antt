@@ -11,7 +11,7 @@ use Rattle.circus_value_text.specs.WordReading.{counts_read}
 use Rattle.circus_value_text.proofs.Marks.{passed_front}
 use Rattle.circus_value_text.proofs.Numbers.{number_complete}
 use Rattle.circus_value_text.proofs.WordsInverse.{clock_complete}
-use Rattle.circus_audit.specs.Seen.Answers.{found, only_if}
+use Rattle.circus_audit.specs.Seen.Answers.{then_read, only_if}
 use Rattle.circus_audit.specs.Seen.Names.{name_length, place_of, number_of_name, other, name_at}
 use Rattle.circus_audit.specs.Seen.Lines.{long_behind, word_behind, name_behind, behind_this, step_read, step_behind, numbered_step, clock_behind}
 
@@ -88,7 +88,7 @@ word_complete mark = behind_complete mark (number_read 65535) decimal (λ n. n <
 
 pub this_complete : (number : ℕ) (rest : List ℕ) → number < 2 ^ 32 → parts rest ≡ true → behind_this number (decimal number ++ rest) ≡ Some rest
 this_complete number rest few ends =
-    ap (λ r. found r (λ n later. only_if (nat_eq n number) (Some later))) (number_completes 4294967295 (omega arith) number rest (omega (arith, few)) ends)
+    ap (λ r. then_read r (λ n later. only_if (nat_eq n number) (Some later))) (number_completes 4294967295 (omega arith) number rest (omega (arith, few)) ends)
     ∙ ap (λ b. only_if b (Some rest)) (eq-eqb number number refl)
 
 step_complete : (events : ℕ) → events < 2 ^ 64 → Completes (step_read events) decimal (λ n. n < events)

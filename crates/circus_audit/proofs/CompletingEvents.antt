@@ -16,7 +16,7 @@ use Rattle.circus_value_text.proofs.WordsInverse.{bytes_complete}
 use Rattle.circus_audit.specs.Possible.{AreBytes, IsOther, CanCome, CanBeGiven}
 use Rattle.circus_audit.specs.RecordText.{what_came, Stray, IsStray}
 use Rattle.circus_audit.specs.declared.noted.Differing.{Differing}
-use Rattle.circus_audit.specs.Seen.Answers.{found, from_some, or_else, whole, only_if}
+use Rattle.circus_audit.specs.Seen.Answers.{then_read, from_some, or_else, whole, only_if}
 use Rattle.circus_audit.specs.Seen.Names.{number_of_name, other, name_at}
 use Rattle.circus_audit.specs.Seen.Events.{addressed_by, foreign_read, bare_event, node_and_bytes, datagram_read, down_read, what_read, event_read, give_read, differing_read}
 use Rattle.circus_audit.specs.Seen.Reading.{node_names}
@@ -30,22 +30,22 @@ addressed_by_complete node bytes small =
 
 pub addressed_complete : (nodes : List (List ℕ)) (own node : ℕ) (bytes : List ℕ) → AreNames nodes → (node < length nodes) × (node ≢ own) → AreBytes bytes → node_and_bytes nodes own (name_at nodes node ++ (codes " " ++ encode_lower bytes)) ≡ Some (node, bytes)
 addressed_complete nodes own node bytes names is small =
-    ap (λ r. found r addressed_by) (other_complete nodes own names node (codes " " ++ encode_lower bytes) is refl)
+    ap (λ r. then_read r addressed_by) (other_complete nodes own names node (codes " " ++ encode_lower bytes) is refl)
     ∙ addressed_by_complete node bytes small
 
 pub foreign_complete : (stray : Stray) → IsStray stray → foreign_read (decimal stray.port ++ (codes " " ++ encode_lower stray.bytes)) ≡ Some (stray.port, stray.bytes)
 foreign_complete stray is =
     let small : stray.port < 2 ^ 16 = is.0 in
-    ap (λ r. found r addressed_by) (number_complete 65535 stray.port (codes " " ++ encode_lower stray.bytes) (omega (arith, small)) (omega arith) refl)
+    ap (λ r. then_read r addressed_by) (number_complete 65535 stray.port (codes " " ++ encode_lower stray.bytes) (omega (arith, small)) (omega arith) refl)
     ∙ addressed_by_complete stray.port stray.bytes is.1
 
 pub differing_complete : (d : Differing) → d.run < 2 ^ 32 → d.ask < 2 ^ 32 → parts d.replies ≡ true → differing_read (decimal d.run ++ (codes " ask " ++ (decimal d.ask ++ d.replies))) ≡ Some d
 differing_complete d run ask ends =
     let inner = decimal d.ask ++ d.replies in
     let last = λ (n : ℕ) (replies : List ℕ). Some (differing_of d.run n replies) in
-    ap (λ r. found r (λ n rest. from_some (behind_prefix (codes " ask ") rest) (λ text. found (number_read 4294967295 text) (λ m replies. Some (differing_of n m replies))))) (number_complete 4294967295 d.run (codes " ask " ++ inner) (omega (arith, run)) (omega arith) refl)
-    ∙ ap (λ r. from_some r (λ text. found (number_read 4294967295 text) last)) (passed_front (codes " ask ") inner)
-    ∙ ap (λ r. found r last) (number_complete 4294967295 d.ask d.replies (omega (arith, ask)) (omega arith) (stops d.replies ends))
+    ap (λ r. then_read r (λ n rest. from_some (behind_prefix (codes " ask ") rest) (λ text. then_read (number_read 4294967295 text) (λ m replies. Some (differing_of n m replies))))) (number_complete 4294967295 d.run (codes " ask " ++ inner) (omega (arith, run)) (omega arith) refl)
+    ∙ ap (λ r. from_some r (λ text. then_read (number_read 4294967295 text) last)) (passed_front (codes " ask ") inner)
+    ∙ ap (λ r. then_read r last) (number_complete 4294967295 d.ask d.replies (omega (arith, ask)) (omega arith) (stops d.replies ends))
 
 module _ (plan : Plan) (own : ℕ) (names : AreNames (node_names plan)) where
   -- another node, by its name
@@ -72,7 +72,7 @@ module _ (plan : Plan) (own : ℕ) (names : AreNames (node_names plan)) where
   pub event_complete : (number : ℕ) (event : Option Event) → number < 2 ^ 32 → CanCome plan own event → event_read (node_names plan) own number (decimal number ++ (codes " " ++ what_came (spelled plan) event)) ≡ Some event
   event_complete number event few can =
       let what = what_came (spelled plan) event in
-      ap (λ r. found r (λ n rest. only_if (nat_eq n number) (from_some (behind_prefix (codes " ") rest) (what_read (node_names plan) own)))) (number_complete 4294967295 number (codes " " ++ what) (omega (arith, few)) (omega arith) refl)
+      ap (λ r. then_read r (λ n rest. only_if (nat_eq n number) (from_some (behind_prefix (codes " ") rest) (what_read (node_names plan) own)))) (number_complete 4294967295 number (codes " " ++ what) (omega (arith, few)) (omega arith) refl)
       ∙ ap (λ b. only_if b (from_some (behind_prefix (codes " ") (codes " " ++ what)) (what_read (node_names plan) own))) (eq-eqb number number refl)
       ∙ ap (λ r. from_some r (what_read (node_names plan) own)) (passed_front (codes " ") what)
       ∙ what_complete event can

@@ -26,7 +26,7 @@ use Rattle.circus_audit.specs.declared.noted.Noted.{Noted}
 use Rattle.circus_audit.specs.declared.noted.Happened.{Happened}
 use Rattle.circus_audit.specs.declared.setting.Hosted.{Hosted}
 use Rattle.circus_audit.specs.declared.stage.Stage.TheVariants.{Events, Watching, Done}
-use Rattle.circus_audit.specs.Seen.Answers.{found, from_some, only_if}
+use Rattle.circus_audit.specs.Seen.Answers.{then_read, from_some, only_if}
 use Rattle.circus_audit.specs.Seen.Names.{name_at}
 use Rattle.circus_audit.specs.Seen.Lines.{name_behind}
 use Rattle.circus_audit.specs.Seen.Views.{since_if, since_read, since_behind, entry_read, entries_read, said_read, view_read}
@@ -77,7 +77,7 @@ module _ (plan : Plan) (names : AreNames (node_names plan)) where
   entries_complete zero (e ∷ entries) few all = absurd (omega (arith, few))
   entries_complete (suc most) [] few all = refl
   entries_complete (suc most) (e ∷ entries) few all =
-      ap (λ r. found r (λ x rest. option_map (λ (es : List Entry). x ∷ es) (entries_read (node_names plan) most rest))) (entry_complete e (entries_text (spelled plan) entries) all.0 (entries_parts entries))
+      ap (λ r. then_read r (λ x rest. option_map (λ (es : List Entry). x ∷ es) (entries_read (node_names plan) most rest))) (entry_complete e (entries_text (spelled plan) entries) all.0 (entries_parts entries))
       ∙ ap (option_map (λ (es : List Entry). e ∷ es)) (entries_complete most entries (omega (arith, few)) all.1)
 
   entry_clean : (entry : Entry) → IsEntry plan entry → is_clean (entry_text (spelled plan) entry) ≡ true
@@ -122,7 +122,7 @@ module _ (plan : Plan) (names : AreNames (node_names plan)) where
       let few : length view.entries ≤ length row = omega (arith, entries_many view.entries, longer number entries, longer (name_at plan.names view.troupe) (number ++ entries), longer (codes "view ") (name_at plan.names view.troupe ++ (number ++ entries))) in
       let named : behind_prefix name (name_at plan.names view.troupe ++ (number ++ entries)) ≡ Some (number ++ entries) = ap (λ k. behind_prefix name (name_at plan.names k ++ (number ++ entries))) is.0 ∙ passed_front name (number ++ entries) in
       ap (λ r. from_some r (said_read nodes (length row) troupe)) named
-      ∙ ap (λ r. found r (λ n rest. option_map (view_of troupe n) (entries_read nodes (length row) rest))) (long_complete (codes " ") view.incarnation entries is.1 (entries_parts view.entries))
+      ∙ ap (λ r. then_read r (λ n rest. option_map (view_of troupe n) (entries_read nodes (length row) rest))) (long_complete (codes " ") view.incarnation entries is.1 (entries_parts view.entries))
       ∙ ap (option_map (view_of troupe view.incarnation)) (entries_complete (length row) view.entries few is.2)
       ∙ ap (λ k. Some (view_of k view.incarnation view.entries)) (sym is.0)
 

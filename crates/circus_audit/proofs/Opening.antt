@@ -1,9 +1,9 @@
 -- What was read where an answer was found.
 use Rattle.std.proofs.Common.{◌≡◌, ℕ, Bool, true, false, ◌⊎◌, inl, inr, List, Option, Some, None, option_map, refl}
 use Rattle.circus_value_text.specs.Reading.{Read}
-use Rattle.circus_audit.specs.Seen.Answers.{found, from_some, or_else, only_if}
+use Rattle.circus_audit.specs.Seen.Answers.{then_read, from_some, or_else, only_if}
 
-pub found_is : {A B : Type 0} (r : Read A) (f : A → List ℕ → Option B) (b : B) → found r f ≡ Some b → (a : A × List ℕ) × (r ≡ Some a) × (f a.0 a.1 ≡ Some b)
+pub found_is : {A B : Type 0} (r : Read A) (f : A → List ℕ → Option B) (b : B) → then_read r f ≡ Some b → (a : A × List ℕ) × (r ≡ Some a) × (f a.0 a.1 ≡ Some b)
 found_is (Some a) f b is = (a, refl, is)
 found_is None f b is = cc
 

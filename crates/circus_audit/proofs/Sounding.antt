@@ -9,7 +9,7 @@ use Rattle.circus_value_text.specs.WordReading.{counts_read}
 use Rattle.circus_value_text.proofs.Marks.{passed_stands, behind_some}
 use Rattle.circus_value_text.proofs.Numbers.{number_sound}
 use Rattle.circus_value_text.proofs.WordsInverse.{clock_sound}
-use Rattle.circus_audit.specs.Seen.Answers.{found, whole, only_if}
+use Rattle.circus_audit.specs.Seen.Answers.{then_read, whole, only_if}
 use Rattle.circus_audit.specs.Seen.Lines.{long_behind, word_behind, behind_this, step_read, step_behind, numbered_step, clock_behind}
 
 abbrev pub Sounds : {A : Type 0} → (List ℕ → Read A) → (A → List ℕ) → (A → Type 0) → Type 0
@@ -47,7 +47,7 @@ this_sound number text rest is = by_read (number_read 4294967295 text) refl is
         s.0 ∙ (λ i. decimal (e i) ++ l i)
     by_test n later false same read is = cc
 
-    by_read : (r : Read ℕ) → number_read 4294967295 text ≡ r → found r (λ n later. only_if (nat_eq n number) (Some later)) ≡ Some rest → text ≡ decimal number ++ rest
+    by_read : (r : Read ℕ) → number_read 4294967295 text ≡ r → then_read r (λ n later. only_if (nat_eq n number) (Some later)) ≡ Some rest → text ≡ decimal number ++ rest
     by_read (Some (n, later)) read is = by_test n later (nat_eq n number) refl read is
     by_read None read is = cc
 

@@ -19,7 +19,7 @@ use Rattle.circus_value_text.proofs.WordsInverse.{bytes_sound}
 use Rattle.circus_audit.specs.Possible.{AreBytes, IsOther, CanCome, CanBeGiven}
 use Rattle.circus_audit.specs.RecordText.{what_came, IsStray}
 use Rattle.circus_audit.specs.declared.noted.Differing.{Differing}
-use Rattle.circus_audit.specs.Seen.Answers.{found, from_some, or_else, whole, only_if}
+use Rattle.circus_audit.specs.Seen.Answers.{then_read, from_some, or_else, whole, only_if}
 use Rattle.circus_audit.specs.Seen.Names.{number_of_name, other, name_at}
 use Rattle.circus_audit.specs.Seen.Events.{addressed_by, foreign_read, bare_event, node_and_bytes, datagram_read, down_read, what_read, event_read, give_read, differing_read}
 use Rattle.circus_audit.specs.Seen.Reading.{node_names}
@@ -79,8 +79,8 @@ differing_of run ask replies = record { run = run; ask = ask; replies = replies 
 
 pub differing_sound : (text : List ℕ) (d : Differing) → differing_read text ≡ Some d → (text ≡ decimal d.run ++ (codes " ask " ++ (decimal d.ask ++ d.replies))) × (d.run < 2 ^ 32) × (d.ask < 2 ^ 32)
 differing_sound text d is =
-    let x = found_is (number_read 4294967295 text) (λ run rest. from_some (behind_prefix (codes " ask ") rest) (λ inner. found (number_read 4294967295 inner) (λ ask replies. Some (differing_of run ask replies)))) d is in
-    let opened = from_is (behind_prefix (codes " ask ") x.0.1) (λ inner. found (number_read 4294967295 inner) (λ ask replies. Some (differing_of x.0.0 ask replies))) d x.2 in
+    let x = found_is (number_read 4294967295 text) (λ run rest. from_some (behind_prefix (codes " ask ") rest) (λ inner. then_read (number_read 4294967295 inner) (λ ask replies. Some (differing_of run ask replies)))) d is in
+    let opened = from_is (behind_prefix (codes " ask ") x.0.1) (λ inner. then_read (number_read 4294967295 inner) (λ ask replies. Some (differing_of x.0.0 ask replies))) d x.2 in
     let y = found_is (number_read 4294967295 opened.0) (λ ask replies. Some (differing_of x.0.0 ask replies)) d opened.2 in
     let made : differing_of x.0.0 y.0.0 y.0.1 ≡ d = cc (y.2) in
     let run = number_sound 4294967295 x.0.0 text x.0.1 (omega arith) x.1 in

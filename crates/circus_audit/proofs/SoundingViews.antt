@@ -15,7 +15,7 @@ use Rattle.circus_value_text.specs.Reading.{behind_prefix, number_read, is_empty
 use Rattle.circus_value_text.proofs.Marks.{pair_is, passed_stands, seen_as_some}
 use Rattle.circus_value_text.proofs.Numbers.{number_sound}
 use Rattle.circus_audit.specs.Possible.{IsSince, IsEntry}
-use Rattle.circus_audit.specs.Seen.Answers.{found, from_some}
+use Rattle.circus_audit.specs.Seen.Answers.{then_read, from_some}
 use Rattle.circus_audit.specs.Seen.Names.{name_at}
 use Rattle.circus_audit.specs.Seen.Lines.{name_behind, long_behind}
 use Rattle.circus_audit.specs.Seen.Views.{since_if, since_read, since_behind, entry_read, entries_read, said_read, view_read}
@@ -69,7 +69,7 @@ module _ (plan : Plan) where
       by_end false empty read = cc
   entries_sound (suc most) text entries is = by_end (is_empty text) refl (entries_sound most) is
     where
-      by_end : (b : Bool) → is_empty text ≡ b → ((later : List ℕ) (es : List Entry) → entries_read (node_names plan) most later ≡ Some es → (later ≡ entries_text (spelled plan) es) × AllByRecursion (IsEntry plan) es) → cond b (Some []) (found (entry_read (node_names plan) text) (λ e rest. option_map (λ es. e ∷ es) (entries_read (node_names plan) most rest))) ≡ Some entries → (text ≡ entries_text (spelled plan) entries) × AllByRecursion (IsEntry plan) entries
+      by_end : (b : Bool) → is_empty text ≡ b → ((later : List ℕ) (es : List Entry) → entries_read (node_names plan) most later ≡ Some es → (later ≡ entries_text (spelled plan) es) × AllByRecursion (IsEntry plan) es) → cond b (Some []) (then_read (entry_read (node_names plan) text) (λ e rest. option_map (λ es. e ∷ es) (entries_read (node_names plan) most rest))) ≡ Some entries → (text ≡ entries_text (spelled plan) entries) × AllByRecursion (IsEntry plan) entries
       by_end true empty go_on read = no_entries text entries empty read
       by_end false empty go_on read =
           let x = found_is (entry_read (node_names plan) text) (λ e rest. option_map (λ es. e ∷ es) (entries_read (node_names plan) most rest)) entries read in

@@ -5,9 +5,9 @@ use Rattle.circus_value_text.specs.declared.unread.Unread.TheVariants as unread
 use Rattle.circus_value_text.specs.Reading.{Read, is_empty}
 
 -- what follows from what was read, and from what stands behind it
-abbrev pub found : {A B : Type 0} → Read A → (A → List ℕ → Option B) → Option B
-found (Some r) f = f r.0 r.1
-found None f = None
+abbrev pub then_read : {A B : Type 0} → Read A → (A → List ℕ → Option B) → Option B
+then_read (Some r) f = f r.0 r.1
+then_read None f = None
 
 -- what follows from something
 abbrev pub from_some : {A B : Type 0} → Option A → (A → Option B) → Option B

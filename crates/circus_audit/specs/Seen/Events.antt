@@ -6,7 +6,7 @@ use Rattle.circus_node.specs.declared.event.Give.{Give}
 use Rattle.circus_value_text.specs.Reading.{Read, behind, behind_prefix, number_read}
 use Rattle.circus_value_text.specs.WordReading.{bytes_of}
 use Rattle.circus_audit.specs.declared.noted.Differing.{Differing}
-use Rattle.circus_audit.specs.Seen.Answers.{found, from_some, or_else, whole, only_if}
+use Rattle.circus_audit.specs.Seen.Answers.{then_read, from_some, or_else, whole, only_if}
 use Rattle.circus_audit.specs.Seen.Names.{number_of_name, other}
 
 -- bytes, to the end
@@ -15,7 +15,7 @@ addressed_by node text = from_some (behind_prefix (codes " ") text) (λ inner. o
 
 -- a number of two bytes, and bytes
 abbrev pub foreign_read : List ℕ → Option (ℕ × List ℕ)
-foreign_read text = found (number_read 65535 text) addressed_by
+foreign_read text = then_read (number_read 65535 text) addressed_by
 
 -- an event that one word says
 abbrev pub bare_event : List ℕ → Option (Option Event)
@@ -34,7 +34,7 @@ module _ (nodes : List (List ℕ)) (own : ℕ) where
 
   -- another node, and bytes
   abbrev pub node_and_bytes : List ℕ → Option (ℕ × List ℕ)
-  node_and_bytes text = found (other_node text) addressed_by
+  node_and_bytes text = then_read (other_node text) addressed_by
 
   abbrev pub datagram_read : List ℕ → Option Event
   datagram_read text = option_map (λ r. Datagram r.0 r.1) (node_and_bytes text)
@@ -50,7 +50,7 @@ module _ (nodes : List (List ℕ)) (own : ℕ) where
   -- the event of this number
   abbrev pub event_read : ℕ → List ℕ → Option (Option Event)
   event_read number text =
-      found (number_read 4294967295 text) (λ n rest. only_if (n == number) (from_some (behind_prefix (codes " ") rest) what_read))
+      then_read (number_read 4294967295 text) (λ n rest. only_if (n == number) (from_some (behind_prefix (codes " ") rest) what_read))
 
   abbrev pub give_read : List ℕ → Option Give
   give_read text = option_map (λ r. record { to = r.0; bytes = r.1 }) (node_and_bytes text)
@@ -58,5 +58,5 @@ module _ (nodes : List (List ℕ)) (own : ℕ) where
 -- which ask of which run, and what was replied
 abbrev pub differing_read : List ℕ → Option Differing
 differing_read text =
-    found (number_read 4294967295 text) (λ run rest. from_some (behind_prefix (codes " ask ") rest)
-    (λ inner. found (number_read 4294967295 inner) (λ ask replies. Some (record { run = run; ask = ask; replies = replies }))))
+    then_read (number_read 4294967295 text) (λ run rest. from_some (behind_prefix (codes " ask ") rest)
+    (λ inner. then_read (number_read 4294967295 inner) (λ ask replies. Some (record { run = run; ask = ask; replies = replies }))))

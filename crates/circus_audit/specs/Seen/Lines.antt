@@ -17,7 +17,7 @@ use Rattle.circus_audit.specs.declared.member_line.Entered.{Entered}
 use Rattle.circus_audit.specs.declared.member_line.Performs.{Performs}
 use Rattle.circus_audit.specs.declared.member_line.Asked.{Asked}
 use Rattle.circus_audit.specs.declared.member_line.After.{After}
-use Rattle.circus_audit.specs.Seen.Answers.{found, whole, only_if}
+use Rattle.circus_audit.specs.Seen.Answers.{then_read, whole, only_if}
 use Rattle.circus_audit.specs.Seen.Names.{number_of_name}
 use Rattle.circus_audit.specs.Seen.Values.{values_behind, outcome_behind, by_shape, procedure_of_import}
 
@@ -35,7 +35,7 @@ name_behind mark names text = behind (behind_prefix mark text) (number_of_name n
 
 -- what stands behind this number
 abbrev pub behind_this : ℕ → List ℕ → Option (List ℕ)
-behind_this number text = found (number_read 4294967295 text) (λ n rest. only_if (n == number) (Some rest))
+behind_this number text = then_read (number_read 4294967295 text) (λ n rest. only_if (n == number) (Some rest))
 
 -- a step of so many events
 abbrev pub step_read : ℕ → List ℕ → Read ℕ

@@ -5,7 +5,7 @@ use Rattle.circus_collate.specs.declared.view.Since.TheVariants.{Joining, From}
 use Rattle.circus_collate.specs.declared.view.Entry.{Entry}
 use Rattle.circus_collate.specs.declared.view.View.{View}
 use Rattle.circus_value_text.specs.Reading.{Read, and_then, seen_as, behind, behind_prefix, number_read, is_empty}
-use Rattle.circus_audit.specs.Seen.Answers.{found, from_some}
+use Rattle.circus_audit.specs.Seen.Answers.{then_read, from_some}
 use Rattle.circus_audit.specs.Seen.Lines.{name_behind, long_behind}
 
 abbrev pub since_if : List ℕ → Option (List ℕ) → Read Since
@@ -27,7 +27,7 @@ entry_read nodes text =
 abbrev pub entries_read : List (List ℕ) → ℕ → List ℕ → Option (List Entry)
 entries_read nodes zero text = cond (is_empty text) (Some []) None
 entries_read nodes (suc most) text =
-    cond (is_empty text) (Some []) (found (entry_read nodes text) (λ entry rest. option_map (λ es. entry ∷ es) (entries_read nodes most rest)))
+    cond (is_empty text) (Some []) (then_read (entry_read nodes text) (λ entry rest. option_map (λ es. entry ∷ es) (entries_read nodes most rest)))
 
 -- these entries in front of the others
 abbrev pub entries_before : List Entry → Option (List Entry) → Option (List Entry)
@@ -36,7 +36,7 @@ entries_before done others = option_map (λ es. done ++ es) others
 -- the incarnation and the entries of a view, on a line of so many bytes
 abbrev pub said_read : List (List ℕ) → ℕ → ℕ → List ℕ → Option View
 said_read nodes most troupe text =
-    found (long_behind (codes " ") text) (λ incarnation rest. option_map
+    then_read (long_behind (codes " ") text) (λ incarnation rest. option_map
     (λ es. record { troupe = troupe; incarnation = incarnation; entries = es }) (entries_read nodes most rest))
 
 -- the view of the troupe with this number and name
