@@ -134,7 +134,7 @@ module _ (program : List Behaviour) (agree : Agree program) (are : AreModules pr
         header = h;
         body = a.body;
         message_is = refl;
-        header_is = is_one_call h (may_ask k a send h refl ready.may one.some) (named_ranges name h a.body now) ready.client one.long;
+        header_is = is_one_call h (may_ask k a send a.header (incarnation_of k a.header.client) refl refl ready.may one.some) (named_ranges name h a.body now) ready.client one.long;
         named = now;
         server_is = refl;
       }
