@@ -75,10 +75,11 @@ impl Consequences {
     }
 }
 
+// The ring stands in a box, so that what a node is moves as a few words (docs/PROOFS.md, "Speed").
 #[derive(Drop)]
 enum Role<M: Module> {
     Member(Member<M>),
-    Ringmaster(Ring),
+    Ringmaster(Box<Ring>),
 }
 
 /// A member or the Ringmaster.
@@ -137,7 +138,10 @@ impl<M: Module> Acting<M> {
                 let came = Consequences::of(alloc, effects, None)?;
                 Ok((Acting::member(member), came))
             }
-            _ => Ok((Acting::ringmaster(ring), Consequences::nothing(alloc))),
+            _ => {
+                let ring = Box::new(alloc, ring)?;
+                Ok((Acting::ringmaster(ring), Consequences::nothing(alloc)))
+            }
         }
     }
 
@@ -149,8 +153,8 @@ impl<M: Module> Acting<M> {
         }
     }
 
-    fn ringmaster(ring: Ring) -> Self
-        ensures { result ≡ ringmaster ring }
+    fn ringmaster(ring: Box<Ring>) -> Self
+        ensures { result ≡ ringmaster ring.value }
     {
         Acting {
             role: Role::Ringmaster(ring),
@@ -205,7 +209,7 @@ impl<M: Module> Acting<M> {
                 }
             }
             Role::Ringmaster(mut ring) => {
-                let came = perform_heard(alloc, deployment, &mut ring, heard)?;
+                let came = perform_heard(alloc, deployment, &mut *ring, heard)?;
                 Ok((Acting::ringmaster(ring), came))
             }
         }

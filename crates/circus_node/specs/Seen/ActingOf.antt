@@ -5,4 +5,4 @@ use Rattle.circus_node.specs.NodeState.{Acting, member, ringmaster}
 
 abbrev pub acting_of : {M P : Type 0} → Role M P → Acting M
 acting_of (role.Member m) = member m
-acting_of (role.Ringmaster ring) = ringmaster ring
+acting_of (role.Ringmaster ring) = ringmaster ring.value

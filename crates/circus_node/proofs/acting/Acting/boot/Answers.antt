@@ -92,20 +92,20 @@ returns-in_ok-came-in-Some-Some-clause-kept g c =
       c.in_ok-member-in-Some-Some.ensures.rest,
     )
 
-pub returns-in_default-clause-acting : goal.returns-in_default-clause-acting
-returns-in_default-clause-acting g c =
+pub returns-in_ok-ring-in_default-clause-acting : goal.returns-in_ok-ring-in_default-clause-acting
+returns-in_ok-ring-in_default-clause-acting g c =
     let M = g.M.Module in
     let d = c.args.deployment.now in
     c.ringmaster.ensures
-    ∙ ap (λ (k : Kept). ringmaster k) c.in_ok-ring.ensures
+    ∙ ap (λ (k : Kept). ringmaster k) (c.in_ok-ring-in_default.ensures.ok ∙ c.in_ok-ring.ensures)
     ∙ sym (ap (λ (made : Made g.row.M.Denot). made.acting)
     (elim c.in_default.branch [
       | in_default-via-in-Some+in_default w ↦ no_module M.declared M.turn M.first d c.args.home c.args.hosted w.in_default.field-0-0 w.in_default.is-0 w.in_default.is-1
       | in_default-via-in_default w ↦ no_home M.declared M.turn M.first d c.args.home c.args.hosted w.in_default.is-0
     ]))
 
-pub returns-in_default-clause-came : goal.returns-in_default-clause-came
-returns-in_default-clause-came g c =
+pub returns-in_ok-ring-in_default-clause-came : goal.returns-in_ok-ring-in_default-clause-came
+returns-in_ok-ring-in_default-clause-came g c =
     let M = g.M.Module in
     let d = c.args.deployment.now in
     c.nothing.ensures
@@ -115,7 +115,8 @@ returns-in_default-clause-came g c =
       | in_default-via-in_default w ↦ no_home M.declared M.turn M.first d c.args.home c.args.hosted w.in_default.is-0
     ]))
 
-pub returns-in_default-clause-kept : goal.returns-in_default-clause-kept
-returns-in_default-clause-kept g c =
-    let ring : IsRingOf c.args.deployment.now c.in_ok-ring.ring = record { deployment = c.requires.deployment; requests = []; kept_is = c.in_ok-ring.ensures } in
+pub returns-in_ok-ring-in_default-clause-kept : goal.returns-in_ok-ring-in_default-clause-kept
+returns-in_ok-ring-in_default-clause-kept g c =
+    let ring : IsRingOf c.args.deployment.now c.in_ok-ring-in_default.ring.value =
+    record { deployment = c.requires.deployment; requests = []; kept_is = c.in_ok-ring-in_default.ensures.ok ∙ c.in_ok-ring.ensures } in
     subst (λ (a : Acting g.row.M.Denot). IsActing c.args.deployment.now a) (sym c.ringmaster.ensures) ring

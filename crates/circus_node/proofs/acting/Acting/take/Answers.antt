@@ -78,20 +78,20 @@ happen-requires g c = rw c.in-Some.is at c.in_ok-occurrence-in-Member.ensures.ca
 
 pub perform_heard-requires : goal.perform_heard-requires
 perform_heard-requires g c =
-    let own = sym (ap acting_of c.in-Ringmaster.is) ∙ c.self.view_is in
+    let own = ap (λ (k : Kept). ringmaster k) c.deref_mut.ensures.value ∙ sym (ap acting_of c.in-Ringmaster.is) ∙ c.self.view_is in
     subst (λ (a : Acting g.row.M.Denot). IsActing c.args.deployment.now a) (sym own) c.requires
 
 pub returns-in_ok-came-in-Ringmaster-clause-acting : goal.returns-in_ok-came-in-Ringmaster-clause-acting
 returns-in_ok-came-in-Ringmaster-clause-acting g c =
     let M = g.M.Module in
-    let own = sym (ap acting_of c.in-Ringmaster.is) ∙ c.self.view_is in
+    let own = ap (λ (k : Kept). ringmaster k) c.deref_mut.ensures.value ∙ sym (ap acting_of c.in-Ringmaster.is) ∙ c.self.view_is in
     c.ringmaster.ensures ∙ ap (λ (k : Kept). ringmaster k) c.in_ok-came-in-Ringmaster.ensures.ring
     ∙ ap (λ (a : Acting g.row.M.Denot). (arrives M.declared M.turn c.args.deployment.now c.args.at c.args.from c.args.heard a).acting) own
 
 pub returns-in_ok-came-in-Ringmaster-clause-came : goal.returns-in_ok-came-in-Ringmaster-clause-came
 returns-in_ok-came-in-Ringmaster-clause-came g c =
     let M = g.M.Module in
-    let own = sym (ap acting_of c.in-Ringmaster.is) ∙ c.self.view_is in
+    let own = ap (λ (k : Kept). ringmaster k) c.deref_mut.ensures.value ∙ sym (ap acting_of c.in-Ringmaster.is) ∙ c.self.view_is in
     c.in_ok-came-in-Ringmaster.ensures.came
     ∙ ap (λ (a : Acting g.row.M.Denot). (arrives M.declared M.turn c.args.deployment.now c.args.at c.args.from c.args.heard a).came) own
 
