@@ -4,6 +4,7 @@ ghost use Rattle.circus_outside.specs.Faults.{Rose};
 ghost use Rattle.circus_report.specs.Writing.{Writes, WritesPart};
 
 use circus_outside::{Sink, SinkFault};
+use memchr::memchr;
 
 /// Why not all was written.
 #[derive(Clone, Copy, Debug)]
@@ -54,7 +55,7 @@ fn line_end(text: &[u8], at: usize) -> usize
     ensures further { at < result }
     ensures within { result ≤ length text.now }
 {
-    match text[at..].iter().position(|byte| *byte == b'\n') {
+    match memchr(b'\n', &text[at..]) {
         Some(length) => at + length + 1,
         None => text.len(),
     }
