@@ -11,7 +11,7 @@ use Rattle.circus_world.specs.WorldState.{WorldState}
 use Rattle.circus_world.specs.Legal.{refusal}
 use Rattle.circus_world.specs.Course.{step_line}
 use Rattle.circus_world.specs.Lines.{Lead}
-use Rattle.circus_world.proofs.LineLemmas.{sent_stays, deployment_stays}
+use Rattle.circus_world.proofs.LineLemmas.{sent_stays}
 use Rattle.circus_report.specs.declared.running.RunFault.{RunFault}
 use Rattle.circus_report.specs.declared.running.RunFault.TheVariants as fault
 use Rattle.circus_report.specs.Run.{IsPut, IsRun, sent_from}
@@ -21,9 +21,6 @@ module _ {M : Type 0} (declared : M → Signature) (turn : M → List ValueTree 
     (legal : refusal w line ≡ None) (is : step_line declared turn line w ≡ Ok next) where
   lead : NamesBelow (length w.nodes) line → Lead declared turn (line ∷ []) w next
   lead named = (next, record { named = named; legal = legal; stepped_is = is }, refl)
-
-  pub same_deployment : NamesBelow (length w.nodes) line → next.deployment ≡ w.deployment
-  same_deployment named = deployment_stays declared turn (line ∷ []) w next (lead named)
 
   pub sent_before : NamesBelow (length w.nodes) line → length w.sent ≤ length next.sent
   sent_before named =

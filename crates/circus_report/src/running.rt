@@ -8,7 +8,7 @@ ghost use Rattle.circus_report.specs.Report.{rest_text, ring_text, member_at, me
 ghost use Rattle.circus_report.specs.Run as run;
 
 use crate::put::{PutFault, put_line, put_lines};
-use crate::text::{REPORT, append_member, append_ring, show_sent};
+use crate::text::{REPORT, append_member, append_ring, append_sent};
 use circus_collate::Host;
 use circus_model::Module;
 use circus_outside::Sink;
@@ -166,17 +166,19 @@ fn put_sent<M: Module, K: Sink>(
     from: usize,
     sink: &mut K,
 ) -> Result<(), RunFault>
-    requires ascii { All (λ h. IsAscii (host_name h)) world.now.deployment.nodes }
-    requires within { from ≤ length world.now.sent }
+    requires { from ≤ length world.now.sent }
     ensures put { run.IsPut (run.sent_from from world.now) (K.written sink.old)
         (K.written sink.new) result }
     ensures rose { IsErrOf result RunFault.SinkFailed
         → Rose (K.faults sink.old) (K.faults sink.new) }
     ensures count { OnOk result (K.faults sink.new ≡ K.faults sink.old) }
 {
+    let nodes = world.deployment().nodes.as_slice();
     let sent = world.sent().as_slice();
+    let mut line = Vec::new(alloc);
     for number in from..sent.len() {
-        let line = show_sent(alloc, world.deployment(), number as u64, &sent[number])?;
+        line.clear();
+        append_sent(&mut line, nodes, number as u64, &sent[number])?;
         put_line(sink, line.as_slice())?;
     }
     Ok(())

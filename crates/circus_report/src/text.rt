@@ -13,7 +13,7 @@ use circus_record::{MemberText, Naming, ProgramNames};
 use circus_value::{ListOf, Name, NoMemory, Octets};
 use circus_world::{Sent, World};
 use itoa::Buffer;
-use std::alloc::Global;
+use std::alloc::{AllocError, Global};
 
 /// The first line of a report.
 pub const REPORT: &str = "circus report 1\n";
@@ -29,10 +29,9 @@ pub fn show_sent(
     ensures { IfOk result (λ text.
         text ≡ report.sent_line (names_of deployment.now.nodes []) number sent.now) }
 {
-    let mut text = String::with_capacity(alloc, room_for(sent))?;
-    let names = ProgramNames::new(deployment.nodes.as_slice(), &[]);
-    append_sent(alloc, &mut text, &names, number, sent)?;
-    Ok(ListOf::of(text.into_bytes()))
+    let mut line = Vec::new(alloc);
+    append_sent(&mut line, deployment.nodes.as_slice(), number, sent)?;
+    Ok(ListOf::of(line))
 }
 
 /// The report of a world: each datagram that was sent, and what stands behind them (docs/FORMATS.md, "Report"), by the names
@@ -47,11 +46,13 @@ pub fn show_report<M: Module>(
     ensures { IfOk result (λ text.
         text ≡ report.report_text (names_of world.now.deployment.nodes names.now) world.now) }
 {
-    let names = ProgramNames::new(world.deployment().nodes.as_slice(), names.as_slice());
-    let mut text = String::from_str(alloc, REPORT)?;
-    append_all_sent(alloc, &mut text, &names, world.sent().as_slice())?;
-    append_rest(&mut text, &names, world)?;
-    Ok(ListOf::of(text.into_bytes()))
+    let nodes = world.deployment().nodes.as_slice();
+    let mut text = Vec::new(alloc);
+    text.extend_from_slice(REPORT.as_bytes())?;
+    append_all_sent(&mut text, nodes, world.sent().as_slice())?;
+    let rest = show_rest(alloc, world, names)?;
+    text.extend_from_slice(rest.as_slice())?;
+    Ok(ListOf::of(text))
 }
 
 /// The lines of a report behind the datagrams: the Ringmaster and its views, and the members (docs/FORMATS.md, "Report").
@@ -77,74 +78,89 @@ fn room_for(sent: &Sent) -> usize {
     sent.bytes.len().saturating_mul(2).saturating_add(96)
 }
 
-// Adds the line of a datagram.
-fn append_sent<N: Naming>(
-    alloc: Global,
-    text: &mut String,
-    names: &N,
+/// Adds the line of a datagram, by the names of the nodes.
+pub(crate) fn append_sent(
+    text: &mut Vec<u8>,
+    nodes: &[Host],
     number: u64,
     sent: &Sent,
 ) -> Result<(), NoMemory>
-    ensures { OnOk result
-        (string_bytes text.new
-        ≡ string_bytes text.old ++ report.sent_line (N.names names.now) number sent.now) }
+    ensures { OnOk result (text.new.items
+        ≡ text.old.items ++ report.sent_line (names_of nodes.now []) number sent.now) }
 {
-    append_sender(text, names, number, sent)?;
-    append_content(alloc, text, names, sent)
+    text.reserve(room_for(sent))?;
+    append_sender(text, nodes, number, sent)?;
+    append_content(text, nodes, sent)
 }
 
 // Adds when a datagram was sent, and by whom.
-fn append_sender<N: Naming>(
-    text: &mut String,
-    names: &N,
+fn append_sender(
+    text: &mut Vec<u8>,
+    nodes: &[Host],
     number: u64,
     sent: &Sent,
 ) -> Result<(), NoMemory>
-    ensures { OnOk result
-        (string_bytes text.new
-        ≡ string_bytes text.old ++ report.sent_head (N.names names.now) number sent.now) }
+    ensures { OnOk result (text.new.items
+        ≡ text.old.items ++ report.sent_head (names_of nodes.now []) number sent.now) }
 {
     let mut digits = Buffer::new();
-    text.push_str("datagram ")?;
-    text.push_str(digits.format(number))?;
-    text.push_str(" step ")?;
-    text.push_str(digits.format(sent.step))?;
-    text.push_str(" from ")?;
-    text.push_str(names.node(usize::from(sent.from)))
+    text.extend_from_slice(b"datagram ")?;
+    text.extend_from_slice(digits.format(number).as_bytes())?;
+    text.extend_from_slice(b" step ")?;
+    text.extend_from_slice(digits.format(sent.step).as_bytes())?;
+    text.extend_from_slice(b" from ")?;
+    append_node(text, nodes, sent.from)
 }
 
 // Adds to whom it was sent, and its bytes.
-fn append_content<N: Naming>(
-    alloc: Global,
-    text: &mut String,
-    names: &N,
-    sent: &Sent,
-) -> Result<(), NoMemory>
-    ensures { OnOk result (string_bytes text.new ≡ string_bytes text.old
-        ++ line (codes " to " ++ (N.names names.now).node sent.now.to ++ codes " "
+fn append_content(text: &mut Vec<u8>, nodes: &[Host], sent: &Sent) -> Result<(), NoMemory>
+    ensures { OnOk result (text.new.items ≡ text.old.items
+        ++ line (codes " to " ++ (names_of nodes.now []).node sent.now.to ++ codes " "
         ++ encode_lower sent.now.bytes)) }
 {
-    let bytes = hex::encode(alloc, sent.bytes.as_slice())?;
-    text.push_str(" to ")?;
-    text.push_str(names.node(usize::from(sent.to)))?;
-    text.push_str(" ")?;
-    text.push_str(bytes.as_str())?;
-    text.push_str("\n")
+    text.extend_from_slice(b" to ")?;
+    append_node(text, nodes, sent.to)?;
+    text.extend_from_slice(b" ")?;
+    append_digits(text, sent.bytes.as_slice())?;
+    text.extend_from_slice(b"\n")
+}
+
+// Adds what a node is called.
+fn append_node(text: &mut Vec<u8>, nodes: &[Host], number: u16) -> Result<(), NoMemory>
+    ensures { OnOk result
+        (text.new.items ≡ text.old.items ++ (names_of nodes.now []).node number) }
+{
+    match nodes.get(usize::from(number)) {
+        Some(host) => text.extend_from_slice(host.name.as_slice()),
+        None => Ok(()),
+    }
+}
+
+// Adds bytes, each as two hexadecimal digits, which are written in their place.
+fn append_digits(text: &mut Vec<u8>, bytes: &[u8]) -> Result<(), NoMemory>
+    ensures { OnOk result (text.new.items ≡ text.old.items ++ encode_lower bytes.now) }
+{
+    let start = text.len();
+    let Some(count) = bytes.len().checked_mul(2) else {
+        return Err(AllocError);
+    };
+    let Some(end) = start.checked_add(count) else {
+        return Err(AllocError);
+    };
+    text.resize(end, 0)?;
+    let Ok(()) = hex::encode_to_slice(bytes, &mut text.as_mut_slice()[start..]) else {
+        unreachable!();
+    };
+    Ok(())
 }
 
 // Adds the lines of datagrams, the first of which has number 0.
-fn append_all_sent<N: Naming>(
-    alloc: Global,
-    text: &mut String,
-    names: &N,
-    all: &[Sent],
-) -> Result<(), NoMemory>
-    ensures { OnOk result
-        (string_bytes text.new
-        ≡ string_bytes text.old ++ report.sent_lines (N.names names.now) 0 all.now) }
+fn append_all_sent(text: &mut Vec<u8>, nodes: &[Host], all: &[Sent]) -> Result<(), NoMemory>
+    ensures { OnOk result (text.new.items
+        ≡ text.old.items ++ report.sent_lines (names_of nodes.now []) 0 all.now) }
 {
     for (number, sent) in all.iter().enumerate() {
-        append_sent(alloc, text, names, number as u64, sent)?;
+        append_sent(text, nodes, number as u64, sent)?;
     }
     Ok(())
 }

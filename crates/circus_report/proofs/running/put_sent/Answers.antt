@@ -1,16 +1,18 @@
 use Rattle.std.proofs.Common.{◌≡◌, ◌≤◌, ◌+◌, List, [], ◌++◌, length, drop, sym, ap, subst, ◌∙◌, arith}
+use Rattle.circus_collate.specs.declared.deployment.Host.{Host}
 use Rattle.circus_record.specs.Naming.{names_of}
 use Rattle.circus_world.specs.declared.sent.Sent.{Sent}
 use Rattle.circus_report.specs.Report.{sent_line, sent_lines}
 use Rattle.circus_report.specs.Writing.{Writes, WritesPart}
 use Rattle.circus_report.specs.Run.{sent_from}
+use Rattle.circus_report.proofs.Leaving.{added_alone}
 use Rattle.circus_report.proofs.ToldLemmas.{Writes-joined, WritesPart-all, WritesPart-joined}
 use Rattle.circus_report.proofs.SentLines.{lines_before, lines_before-more, lines_before-all, WritesPart-lines}
 use Rattle.circus_report.proofs.PutLemmas.{IsPut-no_memory, IsPut-stopped}
 use Rattle.circus_report.proofs.running.put_sent.Goals as goal
 
-pub returns-in_err-line-clause-put : goal.returns-in_err-line-clause-put
-returns-in_err-line-clause-put g c =
+pub returns-in_err-append_sent-clause-put : goal.returns-in_err-append_sent-clause-put
+returns-in_err-append_sent-clause-put g c =
     let w = c.args.world.now in
     let names = names_of w.deployment.nodes [] in
     let from = c.args.from in
@@ -35,9 +37,12 @@ returns-in_err-put_line-clause-put g c =
     let new = g.K.Sink.written c.put_line.new.sink in
     let number = c.loop-number.number in
     let sent : Sent = c.index-sent-number.result in
+    let hosts : List Host = c.as_slice-nodes.result.now in
+    let hosts_are : hosts ≡ c.args.world.now.deployment.nodes = c.as_slice-nodes.ensures ∙ ap (λ d. d.nodes) c.deployment.ensures.value in
     let line = c.as_slice.result.now in
     let line_is : line ≡ sent_line names number sent =
-    c.as_slice.ensures ∙ c.in_ok-line.ensures ∙ ap (λ d. sent_line (names_of d.nodes []) number sent) c.deployment.ensures.value in
+    added_alone line _ _ (sent_line (names_of hosts []) number sent) c.as_slice.ensures.value c.in_ok-append_sent.ensures c.clear.ensures.items
+    ∙ ap (λ (hs : List Host). sent_line (names_of hs []) number sent) hosts_are in
     let more = lines_before-more names from all number sent c.loop-number.auto.number c.loop-number-test.true c.index-sent-number.is in
     let part : WritesPart old new (lines_before names from all number ++ line) =
     WritesPart-joined old middle new (lines_before names from all number) line c.loop-number.invariant.written c.in_err-put_line.ensures.part in
@@ -57,9 +62,12 @@ loop-number-preserved g c =
     let new = g.K.Sink.written c.put_line.new.sink in
     let number = c.loop-number.number in
     let sent : Sent = c.index-sent-number.result in
+    let hosts : List Host = c.as_slice-nodes.result.now in
+    let hosts_are : hosts ≡ c.args.world.now.deployment.nodes = c.as_slice-nodes.ensures ∙ ap (λ d. d.nodes) c.deployment.ensures.value in
     let line = c.as_slice.result.now in
     let line_is : line ≡ sent_line names number sent =
-    c.as_slice.ensures ∙ c.in_ok-line.ensures ∙ ap (λ d. sent_line (names_of d.nodes []) number sent) c.deployment.ensures.value in
+    added_alone line _ _ (sent_line (names_of hosts []) number sent) c.as_slice.ensures.value c.in_ok-append_sent.ensures c.clear.ensures.items
+    ∙ ap (λ (hs : List Host). sent_line (names_of hs []) number sent) hosts_are in
     let more = lines_before-more names from all number sent c.loop-number.auto.number c.loop-number-test.true c.index-sent-number.is in
     record {
       written =
@@ -77,7 +85,7 @@ returns-clause-put g c =
     let all_is : all ≡ w.sent = c.as_slice-sent.ensures ∙ c.sent.ensures in
     let old = g.K.Sink.written c.args.sink.now in
     let new = g.K.Sink.written c.loop-number.sink in
-    let within : from ≤ length all = omega (arith, c.requires.within, ap length all_is) in
+    let within : from ≤ length all = omega (arith, c.requires, ap length all_is) in
     let end : c.loop-number.number ≡ length all = omega (arith, c.loop-number-test.false, c.loop-number.auto.number-end within) in
     subst (λ (l : List Sent). Writes old new (sent_lines names from (drop from l))) all_is
     (subst (Writes old new) (ap (lines_before names from all) end ∙ lines_before-all names from all) c.loop-number.invariant.written)

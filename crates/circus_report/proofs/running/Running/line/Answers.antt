@@ -1,25 +1,13 @@
 use Rattle.std.proofs.Common.{◌≡◌, length, sym, ap, subst, ◌∙◌, arith}
-use Rattle.std.specs.Prelude.{All, IsAscii}
-use Rattle.circus_collate.specs.declared.deployment.Deployment.{Deployment}
-use Rattle.circus_record.specs.Naming.{host_name}
 use Rattle.circus_schedule.specs.Meaning.{NamesBelow}
 use Rattle.circus_world.specs.WorldState.{WorldState}
 use Rattle.circus_report.specs.Run.{IsPut, IsRun, sent_from}
 use Rattle.circus_report.proofs.PutLemmas.{IsCounted-stopped}
-use Rattle.circus_report.proofs.StepLemmas.{same_deployment, sent_before, IsRun-cut}
+use Rattle.circus_report.proofs.StepLemmas.{sent_before, IsRun-cut}
 use Rattle.circus_report.proofs.running.Running.line.Goals as goal
 
-pub put_sent-requires-clause-ascii : goal.put_sent-requires-clause-ascii
-put_sent-requires-clause-ascii g c =
-    let w = c.self.inside.world in
-    let line = c.args.line.now in
-    let named : NamesBelow (length w.nodes) line = subst (λ (v : WorldState g.row.M.Denot). NamesBelow (length v.nodes) line) (sym c.self.view_is) c.requires.named in
-    let same = same_deployment g.M.Module.declared g.M.Module.turn line w c.in-Ok.world c.in-Ok.ensures.0 c.in-Ok.ensures.1 named in
-    let nodes : c.in-Ok.world.deployment ≡ c.args.self.deployment = same ∙ ap (λ v. v.deployment) c.self.view_is in
-    subst (λ (d : Deployment). All (λ h. IsAscii (host_name h)) d.nodes) (sym nodes) c.requires.ascii
-
-pub put_sent-requires-clause-within : goal.put_sent-requires-clause-within
-put_sent-requires-clause-within g c =
+pub put_sent-requires : goal.put_sent-requires
+put_sent-requires g c =
     let w = c.self.inside.world in
     let line = c.args.line.now in
     let named : NamesBelow (length w.nodes) line = subst (λ (v : WorldState g.row.M.Denot). NamesBelow (length v.nodes) line) (sym c.self.view_is) c.requires.named in
