@@ -73,9 +73,14 @@ pub fn show_rest<M: Module>(
     Ok(ListOf::of(text.into_bytes()))
 }
 
-// About how many bytes the line of a datagram has: two for each of its own, and what stands before them.
+// Room for the line of a datagram: two bytes for each of its own, and what stands before them; at least what most lines of a
+// step need, which are written in the same place.
 fn room_for(sent: &Sent) -> usize {
-    sent.bytes.len().saturating_mul(2).saturating_add(96)
+    sent.bytes
+        .len()
+        .saturating_mul(2)
+        .saturating_add(96)
+        .max(512)
 }
 
 /// Adds the line of a datagram, by the names of the nodes.
@@ -148,7 +153,7 @@ fn append_digits(text: &mut Vec<u8>, bytes: &[u8]) -> Result<(), NoMemory>
         return Err(AllocError);
     };
     text.resize(end, 0)?;
-    let Ok(()) = hex::encode_to_slice(bytes, &mut text.as_mut_slice()[start..]) else {
+    let Ok(()) = hex::encode_to_slice(bytes, &mut text.as_mut_slice()[start..end]) else {
         unreachable!();
     };
     Ok(())
