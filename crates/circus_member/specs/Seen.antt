@@ -2,3 +2,4 @@
 pub mod StateCode
 pub mod Parts
 pub mod Within
+pub mod Resting

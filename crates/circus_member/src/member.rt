@@ -41,8 +41,7 @@ impl<M: Module> Drop for Member<M> {
 impl<M: Module> Model for Member<M> {
     ghost use Rattle.circus_member_rules.specs.MemberState.{MemberState};
     ghost use Rattle.circus_member.specs.Seen.StateCode.{state_code};
-    ghost use Rattle.std.specs.Prelude.{◌≡◌, []};
-    ghost use Rattle.circus_member_rules.specs.Seen.Sound.{IsRested};
+    ghost use Rattle.circus_member.specs.Seen.Resting.{IsResting};
     ghost use Rattle.circus_performing.specs.Record.{behaviour};
 
     ghost Value = { MemberState M };
@@ -51,7 +50,7 @@ impl<M: Module> Model for Member<M> {
 
     ghost view = { λ a. a.doing.value.member };
 
-    ghost invariant = { λ a. let d = a.doing.value in IsRested (behaviour M.declared M.turn M.first d.member.performing.hosted) d.member × (d.effects ≡ []) };
+    ghost invariant = { λ a. IsResting (behaviour M.declared M.turn M.first) a.doing.value };
 }
 
 impl<M: Module> Member<M> {
