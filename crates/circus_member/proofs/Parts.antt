@@ -1,6 +1,6 @@
 -- A step so far, and what a call says where it has memory.
-use Rattle.std.proofs.Common.{◌≡◌, ℕ, Ok, Err, sym, subst, ap, ◌∙◌}
-use Rattle.std.specs.Prelude.{List, Result, IfOk, OnOk}
+use Rattle.std.proofs.Common.{◌≡◌, ℕ, Ok, Err, sym, ap, ◌∙◌}
+use Rattle.std.specs.Prelude.{List, Result, OnOk}
 use Rattle.circus_member_rules.specs.declared.occurrence.Effect.{Effect}
 use Rattle.circus_member_rules.specs.declared.occurrence.Occurrence.{Occurrence}
 use Rattle.circus_member_rules.specs.MemberState.{Doing, behind}
@@ -15,14 +15,6 @@ doing_of member effects = record { member = member_of member; effects = effects 
 pub both_ok : {T E P Q R : Type 0} (r : Result T E) → (P → Q → R) → OnOk r P → OnOk r Q → OnOk r R
 both_ok (Ok x) f p q = f p q
 both_ok (Err e) f p q = tt
-
--- where it goes on, what was done without a fault holds
-pub goes_on : {A E : Type 0} {a b d : A} (done : Result (Unit {0}) E) → d ≡ a → done ≡ Ok tt → OnOk done (a ≡ b) → d ≡ b
-goes_on {a = a} {b = b} done goes is on = goes ∙ subst (λ r. OnOk r (a ≡ b)) is on
-
-pub all_goes_on : {A E F : Type 0} (a b : A) (r : Result A F) (done : Result (Unit {0}) E) → IfOk r (λ d. d ≡ a) → IfOk r (λ _. done ≡ Ok tt) → OnOk done (a ≡ b) → IfOk r (λ d. d ≡ b)
-all_goes_on a b (Ok d) done goes is on = goes_on done goes is on
-all_goes_on a b (Err f) done goes is on = tt
 
 -- what is handled of a step that stood in a box
 pub handled_so : {M : Type 0} (at : ℕ) (o p : Occurrence) (i d : Doing M) → o ≡ p → i ≡ d → behind i (handle at p i.member) ≡ behind d (handle at o d.member)

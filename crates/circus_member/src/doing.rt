@@ -1,5 +1,5 @@
 // A step so far: what the member is, and what it has made.
-ghost use Rattle.std.specs.Prelude.{◌≡◌, ◌≤◌, [], if◌then◌else◌, length, Ok, IfOk, OnOk, option_map};
+ghost use Rattle.std.specs.Prelude.{◌≡◌, ◌≤◌, [], if◌then◌else◌, length, IfOk, OnOk, option_map};
 ghost use Rattle.circus_limits.specs.Limits.{most_modules};
 ghost use Rattle.circus_header.specs.CallFields.{IsIncarnation};
 ghost use Rattle.circus_model.specs.Lawful.{IsState};
@@ -84,15 +84,15 @@ impl<M: Module> Doing<M> {
                 body,
                 sender,
             } => {
-                let done = inside.handle_call(header, body, sender);
-                Ok((Doing::goes_on(doing, done)?, None))
+                inside.handle_call(header, body, sender)?;
+                Ok((doing, None))
             }
             Occurrence::Fetched {
                 incarnation,
                 sender,
             } => {
-                let done = inside.handle_fetch(incarnation, sender);
-                Ok((Doing::goes_on(doing, done)?, None))
+                inside.handle_fetch(incarnation, sender)?;
+                Ok((doing, None))
             }
             Occurrence::Replied { name, from, reply } => {
                 let difference = inside.handle_reply(name, from, reply)?;
@@ -104,48 +104,30 @@ impl<M: Module> Doing<M> {
                 from,
                 incarnation,
             } => {
-                let done = inside.handle_stale(name, server, from, incarnation);
-                Ok((Doing::goes_on(doing, done)?, None))
+                inside.handle_stale(name, server, from, incarnation)?;
+                Ok((doing, None))
             }
             Occurrence::IsBefore { name, from } => {
                 inside.handle_before(name, from);
                 Ok((doing, None))
             }
             Occurrence::Told { request, table } => {
-                let done = inside.handle_table(request, table);
-                Ok((Doing::goes_on(doing, done)?, None))
+                inside.handle_table(request, table)?;
+                Ok((doing, None))
             }
             Occurrence::Restored { state, count } => {
                 let restored = Box::into_inner(doing).handle_state(at, state, count)?;
                 Ok((restored.into_box()?, None))
             }
             Occurrence::Declared(node) => {
-                let done = inside.handle_down(node);
-                Ok((Doing::goes_on(doing, done)?, None))
+                inside.handle_down(node)?;
+                Ok((doing, None))
             }
             Occurrence::Joins => {
-                let done = inside.joins();
-                Ok((Doing::goes_on(doing, done)?, None))
+                inside.joins()?;
+                Ok((doing, None))
             }
         }
-    }
-
-    // It goes on, unless memory ran out in what was done.
-    fn unless_spent(self, done: Result<(), NoMemory>) -> Result<Self, NoMemory>
-        ensures goes { IfOk result (λ d. d ≡ self) }
-        ensures done { IfOk result (λ _. done ≡ Ok tt) }
-    {
-        done?;
-        Ok(self)
-    }
-
-    // The same in a box.
-    fn goes_on(doing: Box<Self>, done: Result<(), NoMemory>) -> Result<Box<Self>, NoMemory>
-        ensures goes { IfOk result (λ d. d.value ≡ doing.value) }
-        ensures done { IfOk result (λ _. done ≡ Ok tt) }
-    {
-        done?;
-        Ok(doing)
     }
 
     fn handle_call(
@@ -346,8 +328,8 @@ impl<M: Module> Doing<M> {
             return Ok(self);
         }
         self.member = self.member.activate(state, count, at)?;
-        let begun = self.begin(count);
-        self.unless_spent(begun)
+        self.begin(count)?;
+        Ok(self)
     }
 
     // The member is active from this call on, and tells so.
@@ -422,8 +404,8 @@ impl<M: Module> Doing<M> {
         ensures { IfOk result (λ d. d ≡ step.answered_by M.turn at self reply) }
     {
         self.member = self.member.answer(reply, at)?;
-        let turned = self.after_turns();
-        self.unless_spent(turned)
+        self.after_turns()?;
+        Ok(self)
     }
 
     /// A run is entered.
@@ -436,8 +418,8 @@ impl<M: Module> Doing<M> {
         let count = self.member.performer.record().count;
         self.member.gather.started(count);
         self.member = self.member.enter(start, at)?;
-        let turned = self.after_turns();
-        self.unless_spent(turned)
+        self.after_turns()?;
+        Ok(self)
     }
 
     // Behind turns of the last run: it asks, or has ended.

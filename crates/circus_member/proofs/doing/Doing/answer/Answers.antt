@@ -1,11 +1,10 @@
 use Rattle.std.proofs.Common.{◌≡◌, sym, subst, ap, ◌∙◌, Some}
-use Rattle.std.specs.Prelude.{IfOk}
 use Rattle.circus_model.specs.Behaviour.{IsModule}
 use Rattle.circus_performing.specs.Record.{behaviour}
 use Rattle.circus_member_rules.specs.Step.{value_of_open, after_turns, answered_by}
 use Rattle.circus_member_rules.specs.Seen.Sound.{IsSound, HasTurned}
 use Rattle.circus_member.specs.Seen.Parts.{member_of}
-use Rattle.circus_member.proofs.Parts.{doing_of, all_goes_on}
+use Rattle.circus_member.proofs.Parts.{doing_of}
 use Rattle.circus_member_rules.proofs.Turned.{has_turned}
 use Rattle.circus_member_rules.proofs.Entering.{has_value, can_answer, with_answered, turned_by_reply}
 use Rattle.circus_member.proofs.doing.Doing.answer.Goals as goal
@@ -19,8 +18,8 @@ answer-requires g c =
     let value = subst (λ x. value_of_open x.member ≡ Some c.args.reply) (sym c.self.view_is) c.requires.value in
     can_answer b d.member c.args.reply sound (has_value b d.member c.args.reply sound value)
 
-pub after_turns-turned-requires : goal.after_turns-turned-requires
-after_turns-turned-requires g c =
+pub after_turns-requires : goal.after_turns-requires
+after_turns-requires g c =
     let i = c.self.inside in
     let d = doing_of i.member i.effects in
     let b = behaviour g.M.Module.declared g.M.Module.turn g.M.Module.first i.member.performer.hosted in
@@ -34,10 +33,6 @@ after_turns-turned-requires g c =
 pub returns : goal.returns
 returns g c =
     let i = c.self.inside in
-    let d = doing_of i.member i.effects in
-    let same =
-    ap (λ m. after_turns (doing_of m i.effects)) c.in_ok-self-inside.ensures
+    c.in_ok-after_turns.ensures
+    ∙ ap (λ m. after_turns (doing_of m i.effects)) c.in_ok-self-inside.ensures
     ∙ ap (λ x. answered_by g.M.Module.turn c.args.at x c.args.reply) c.self.view_is
-    in
-    subst (λ x. IfOk c.unless_spent.result (λ d. d ≡ x)) same
-    (all_goes_on _ _ c.unless_spent.result c.after_turns-turned.result c.unless_spent.ensures.goes c.unless_spent.ensures.done c.after_turns-turned.ensures)

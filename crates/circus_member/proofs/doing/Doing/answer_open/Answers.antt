@@ -3,7 +3,7 @@ use Rattle.std.specs.Prelude.{IfOk}
 use Rattle.std.specs.Option.{option_map_or}
 use Rattle.circus_performing.specs.Record.{behaviour}
 use Rattle.circus_member_rules.specs.MemberState.{Doing}
-use Rattle.circus_member_rules.specs.Step.{value_of_open, answered_by, answered_open}
+use Rattle.circus_member_rules.specs.Step.{value_of_open, answered_by}
 use Rattle.circus_member_rules.specs.Seen.Sound.{IsSound}
 use Rattle.circus_member.proofs.doing.Doing.answer_open.Goals as goal
 

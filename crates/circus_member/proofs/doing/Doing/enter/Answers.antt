@@ -1,5 +1,4 @@
-use Rattle.std.proofs.Common.{◌≡◌, sym, subst, ap, ◌∙◌}
-use Rattle.std.specs.Prelude.{IfOk}
+use Rattle.std.proofs.Common.{sym, subst, ap, ◌∙◌}
 use Rattle.circus_model.specs.Behaviour.{IsModule}
 use Rattle.circus_gather.specs.Gathering.{with_start}
 use Rattle.circus_performing.specs.Performing as performing
@@ -8,7 +7,7 @@ use Rattle.circus_performing.specs.Record.{behaviour}
 use Rattle.circus_member_rules.specs.Step.{after_turns, enter_run_of}
 use Rattle.circus_member_rules.specs.Seen.Sound.{IsSound, HasTurned, MayStart}
 use Rattle.circus_member.specs.Seen.Parts.{member_of}
-use Rattle.circus_member.proofs.Parts.{doing_of, all_goes_on}
+use Rattle.circus_member.proofs.Parts.{doing_of}
 use Rattle.circus_member_rules.proofs.Turned.{has_turned}
 use Rattle.circus_member_rules.proofs.Entering.{with_entered, turned_by_start}
 use Rattle.circus_member.proofs.doing.Doing.enter.Goals as goal
@@ -17,8 +16,8 @@ pub enter-requires : goal.enter-requires
 enter-requires g c =
     subst (λ x. CanEnter (g.M.Module.declared x.member.performing.hosted) c.args.start x.member.performing.kept) (sym c.self.view_is) c.requires.may.can
 
-pub after_turns-turned-requires : goal.after_turns-turned-requires
-after_turns-turned-requires g c =
+pub after_turns-requires : goal.after_turns-requires
+after_turns-requires g c =
     let i = c.self.inside in
     let d = doing_of i.member i.effects in
     let b = behaviour g.M.Module.declared g.M.Module.turn g.M.Module.first i.member.performer.hosted in
@@ -35,10 +34,7 @@ pub returns : goal.returns
 returns g c =
     let i = c.self.inside in
     let started = c.started.ensures ∙ ap (λ k. with_start i.member.gather k.count) c.record.ensures.value in
-    let same =
-    ap (λ m. after_turns (doing_of m i.effects)) c.in_ok-self-inside.ensures
+    c.in_ok-after_turns.ensures
+    ∙ ap (λ m. after_turns (doing_of m i.effects)) c.in_ok-self-inside.ensures
     ∙ ap (λ x. after_turns (doing_of (record i.member { gather = x; performer = record i.member.performer { kept = performing.enter_run (g.M.Module.turn i.member.performer.hosted) c.args.at c.args.start i.member.performer.kept } }) i.effects)) started
     ∙ ap (λ x. enter_run_of g.M.Module.turn c.args.at x c.args.start) c.self.view_is
-    in
-    subst (λ x. IfOk c.unless_spent.result (λ d. d ≡ x)) same
-    (all_goes_on _ _ c.unless_spent.result c.after_turns-turned.result c.unless_spent.ensures.goes c.unless_spent.ensures.done c.after_turns-turned.ensures)
