@@ -51,8 +51,8 @@ impl<M: Module> Drop for NodeCore<M> {
 impl<M: Module> Model for NodeCore<M> {
     ghost use Rattle.circus_node.specs.NodeState.{NodeState};
     ghost use Rattle.circus_node.specs.Seen.NodeCode.{node_code};
-    ghost use Rattle.circus_node.specs.Seen.StationOf.{node_of, IsStation};
-    ghost use Rattle.circus_node.specs.Seen.Kept.{IsActing};
+    ghost use Rattle.circus_node.specs.Seen.StationOf.{node_of};
+    ghost use Rattle.circus_node.specs.Seen.Kept.{IsActingAt};
 
     ghost Value = { NodeState M };
 
@@ -60,7 +60,7 @@ impl<M: Module> Model for NodeCore<M> {
 
     ghost view = { λ a. node_of a.station.value a.acting };
 
-    ghost invariant = { λ a. let s = a.station.value in IsStation s × IsActing s.deployment a.acting };
+    ghost invariant = { λ a. IsActingAt a.station.value a.acting };
 }
 
 impl<M: Module> NodeCore<M> {

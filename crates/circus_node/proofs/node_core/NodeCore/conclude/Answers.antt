@@ -24,10 +24,11 @@ returns-in_err-outputs-clause-ended g c =
 pub invariant_of-result : goal.invariant_of-result
 invariant_of-result g c =
     let s = c.deref_mut.result.now in
-    let sent = c.in_ok-outputs.ensures in (
-      still_stands s c.conclude.new.self (subst IsStation (sym c.deref_mut.ensures.value) c.requires.station) sent.deployment sent.node sent.remains,
-      subst (λ d. IsActing d c.args.acting) (sym (sent.deployment ∙ ap (λ (x : Station). x.deployment) c.deref_mut.ensures.value)) c.requires.acting,
-    )
+    let sent = c.in_ok-outputs.ensures in
+    record {
+      station = still_stands s c.conclude.new.self (subst IsStation (sym c.deref_mut.ensures.value) c.requires.station) sent.deployment sent.node sent.remains;
+      acting = subst (λ d. IsActing d c.args.acting) (sym (sent.deployment ∙ ap (λ (x : Station). x.deployment) c.deref_mut.ensures.value)) c.requires.acting;
+    }
 
 pub returns-clause-ended : goal.returns-clause-ended
 returns-clause-ended g c =

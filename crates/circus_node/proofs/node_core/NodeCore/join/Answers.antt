@@ -11,10 +11,10 @@ returns-in_err-acting-clause-ended g c =
     lost_memory c.from_residual.result (join_troupe g.M.Module.declared g.M.Module.turn c.args.at c.args.self) p.0 p.1 p.2
 
 pub conclude-requires-clause-station : goal.conclude-requires-clause-station
-conclude-requires-clause-station g c = c.self.invariant.0
+conclude-requires-clause-station g c = c.self.invariant.station
 
 pub conclude-requires-clause-acting : goal.conclude-requires-clause-acting
-conclude-requires-clause-acting g c = c.in_ok-acting.ensures.kept c.self.inside.station.value.deployment c.self.invariant.1
+conclude-requires-clause-acting g c = c.in_ok-acting.ensures.kept c.self.inside.station.value.deployment c.self.invariant.acting
 
 pub returns-clause-ended : goal.returns-clause-ended
 returns-clause-ended g c =

@@ -22,11 +22,11 @@ returns-in_err-acting-clause-ended g c =
 
 pub conclude-requires-clause-station : goal.conclude-requires-clause-station
 conclude-requires-clause-station g c =
-    still_stands c.deref_mut-own.result.now _ (subst IsStation (sym c.deref_mut-own.ensures.value) c.self.invariant.0) refl refl c.stop.ensures.remains
+    still_stands c.deref_mut-own.result.now _ (subst IsStation (sym c.deref_mut-own.ensures.value) c.self.invariant.station) refl refl c.stop.ensures.remains
 
 pub conclude-requires-clause-acting : goal.conclude-requires-clause-acting
 conclude-requires-clause-acting g c =
-    c.in_ok-acting.ensures.kept c.deref_mut-own.result.now.deployment (subst (λ (x : Station). IsActing x.deployment c.self.inside.acting) (sym c.deref_mut-own.ensures.value) c.self.invariant.1)
+    c.in_ok-acting.ensures.kept c.deref_mut-own.result.now.deployment (subst (λ (x : Station). IsActing x.deployment c.self.inside.acting) (sym c.deref_mut-own.ensures.value) c.self.invariant.acting)
 
 pub returns-clause-ended : goal.returns-clause-ended
 returns-clause-ended g c =

@@ -25,7 +25,7 @@ returns-in_err-gives-clause-ended g c =
 pub hear-requires : goal.hear-requires
 hear-requires g c =
     let got = c.in_ok-gives.ensures in
-    subst (λ d. IsActing d c.self.inside.acting) (sym (ap (λ (x : Station). x.deployment) got.station ∙ ap (λ (x : Station). x.deployment) c.deref_mut-own.ensures.value)) c.self.invariant.1
+    subst (λ d. IsActing d c.self.inside.acting) (sym (ap (λ (x : Station). x.deployment) got.station ∙ ap (λ (x : Station). x.deployment) c.deref_mut-own.ensures.value)) c.self.invariant.acting
 
 pub returns-in_err-acting-clause-ended : goal.returns-in_err-acting-clause-ended
 returns-in_err-acting-clause-ended g c =
@@ -35,7 +35,7 @@ returns-in_err-acting-clause-ended g c =
 pub conclude-requires-clause-station : goal.conclude-requires-clause-station
 conclude-requires-clause-station g c =
     let got = c.in_ok-gives.ensures in
-    still_stands c.deref_mut-own.result.now c.receive.new.self (subst IsStation (sym c.deref_mut-own.ensures.value) c.self.invariant.0)
+    still_stands c.deref_mut-own.result.now c.receive.new.self (subst IsStation (sym c.deref_mut-own.ensures.value) c.self.invariant.station)
     (ap (λ (x : Station). x.deployment) got.station) (ap (λ (x : Station). x.node) got.station) got.remains
 
 pub conclude-requires-clause-acting : goal.conclude-requires-clause-acting

@@ -22,10 +22,11 @@ returns-in_err-outputs-clause-ended g c =
 pub invariant_of-result : goal.invariant_of-result
 invariant_of-result g c =
     let s = c.deref_mut.result.now in
-    let came = c.in_ok-outputs.ensures in (
-      still_stands s c.tick.new.self (subst IsStation (sym c.deref_mut.ensures.value) c.self.invariant.0) came.deployment came.node came.remains,
-      subst (λ d. IsActing d c.self.inside.acting) (sym (came.deployment ∙ ap (λ (x : Station). x.deployment) c.deref_mut.ensures.value)) c.self.invariant.1,
-    )
+    let came = c.in_ok-outputs.ensures in
+    record {
+      station = still_stands s c.tick.new.self (subst IsStation (sym c.deref_mut.ensures.value) c.self.invariant.station) came.deployment came.node came.remains;
+      acting = subst (λ d. IsActing d c.self.inside.acting) (sym (came.deployment ∙ ap (λ (x : Station). x.deployment) c.deref_mut.ensures.value)) c.self.invariant.acting;
+    }
 
 pub returns-clause-ended : goal.returns-clause-ended
 returns-clause-ended g c =
@@ -35,4 +36,4 @@ returns-clause-ended g c =
     (ticked_is s a (c.tick.new.self, c.in_ok-outputs.outputs) c.in_ok-outputs.ensures)
 
 pub returns-clause-rest : goal.returns-clause-rest
-returns-clause-rest g c = has_gone_on c.self.inside.station.value.deployment c.self.inside.acting c.self.invariant.1
+returns-clause-rest g c = has_gone_on c.self.inside.station.value.deployment c.self.inside.acting c.self.invariant.acting
