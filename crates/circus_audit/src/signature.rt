@@ -14,12 +14,11 @@ use std::alloc::Global;
 fn has_root(deployment: &Deployment) -> bool
     ensures { result ≡ reading.has_root deployment.now.troupes }
 {
-    for troupe in deployment.troupes.as_slice() {
-        if troupe.root {
-            return true;
-        }
-    }
-    false
+    deployment
+        .troupes
+        .as_slice()
+        .iter()
+        .any(|troupe| troupe.root)
 }
 
 /// The module of the member that a node hosts, and what it declares. `None` where the node hosts none.
