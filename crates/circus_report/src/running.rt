@@ -88,7 +88,6 @@ impl<M: Module> Running<M> {
     /// `SinkFailed` only where the sink's count of faults rose, and `NoMemory`; after both, what was put is a beginning of
     /// these lines.
     pub fn begin<K: Sink>(alloc: Global, world: World<M>, sink: &mut K) -> Result<Self, RunFault>
-        requires { All (λ h. IsAscii (host_name h)) world.deployment.nodes }
         ensures put { run.IsPut (run.beginning world) (K.written sink.old)
             (K.written sink.new) result }
         ensures same { IfOk result (λ running. running ≡ world) }
@@ -107,7 +106,6 @@ impl<M: Module> Running<M> {
     /// `Illegal` and `Spent` as `World::step` answers them, where nothing was put; `SinkFailed` only where the sink's count of
     /// faults rose, and `NoMemory`.
     pub fn line<K: Sink>(self, alloc: Global, line: &Line, sink: &mut K) -> Result<Self, RunFault>
-        requires ascii { All (λ h. IsAscii (host_name h)) self.deployment.nodes }
         requires named { NamesBelow (length self.nodes) line.now }
         requires few { self.steps < 18446744073709551615 }
         ensures run { run.IsRun M.declared M.turn line.now self (K.written sink.old)

@@ -25,7 +25,6 @@ pub fn show_sent(
     number: u64,
     sent: &Sent,
 ) -> Result<Octets, NoMemory>
-    requires { All (λ h. IsAscii (host_name h)) deployment.now.nodes }
     ensures { IfOk result (λ text.
         text ≡ report.sent_line (names_of deployment.now.nodes []) number sent.now) }
 {

@@ -27,9 +27,6 @@ loop-place-init g c =
       count = refl;
     }
 
-pub line-requires-clause-ascii : goal.line-requires-clause-ascii
-line-requires-clause-ascii g c = subst (λ (hosts : List Host). All (λ (h : Host). IsAscii (host_name h)) hosts) c.loop-place.invariant.hosts c.requires.ascii
-
 pub line-requires-clause-named : goal.line-requires-clause-named
 line-requires-clause-named g c =
     subst (λ (n : ℕ). NamesBelow n (get_or c.args.lines.now c.loop-place.place (Deliver 0))) (sym c.loop-place.invariant.nodes)

@@ -1,19 +1,9 @@
 use Rattle.std.proofs.Common.{◌≡◌, [], ◌∷◌, ◌++◌, length, arith, length-append}
 use Rattle.circus_schedule.specs.declared.line.Line.TheVariants.{Deliver}
-use Rattle.circus_world.proofs.SoundLemmas.{booted_sound, step_sound}
+use Rattle.circus_world.proofs.SoundLemmas.{step_sound}
 use Rattle.tests_command.proofs.Leading.{one_more, steps_led}
 use Rattle.circus_plan_modules.proofs.Named.{nodes_ascii}
 use Rattle.tests_command.proofs.tally.replay.Goals as goal
-
-pub begin-requires : goal.begin-requires
-begin-requires g c =
-    let world = c.in_ok-world.world in
-    let booted = c.in_ok-world.ensures in
-    nodes_ascii world.deployment
-    (booted_sound g.M.Module.declared g.M.Module.turn g.M.Module.first c.args.deployment c.args.modules.items booted.0 world c.requires.deployment c.requires.modules booted.1 booted.2).deployment
-
-pub line-requires-clause-ascii : goal.line-requires-clause-ascii
-line-requires-clause-ascii g c = nodes_ascii c.loop-number.running.deployment c.loop-number.invariant.sound.deployment
 
 pub line-requires-clause-few : goal.line-requires-clause-few
 line-requires-clause-few g c =
