@@ -10,11 +10,11 @@ pub mod Accepting
 pub mod Since
 pub mod Course
 pub mod Theorem
-pub mod Stood
 pub mod One
 pub mod Agree
 pub mod Alike
 pub mod OneRun
+pub mod Stood
 pub mod Served
 pub mod PlainServed
 pub mod Spelled

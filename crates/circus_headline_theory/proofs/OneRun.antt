@@ -1,5 +1,5 @@
 -- There is one node run for the events that come to a node.
-use Rattle.std.proofs.Common.{◌≡◌, ℕ, ◌<◌, ◌≤◌, ◌⊎◌, inl, inr, Bool, true, false, cond, not, ◌&&◌, if◌then◌else◌, List, [], ◌∷◌, ◌++◌, length, map, filter, All, Option, None, Some, Result, Ok, Err, refl, sym, ap, subst, ◌∙◌, arith, append-nil}
+use Rattle.std.proofs.Common.{◌≡◌, ℕ, ◌<◌, ◌≤◌, ◌⊎◌, inl, inr, Bool, true, false, cond, not, ◌&&◌, if◌then◌else◌, List, [], ◌∷◌, ◌++◌, length, map, filter, All, Option, None, Some, Result, Ok, Err, refl, sym, ap, subst, ◌∙◌, arith, append_assoc, append-nil}
 use Rattle.std.specs.Prelude.{◌==◌, Contains, nat_eq, option_map, option_and_then}
 use Rattle.std.specs.List.{flat_map}
 use Rattle.std.proofs.lemmas.Bool.{eqb-true, eq-eqb, true≢false}
@@ -27,7 +27,7 @@ use Rattle.circus_performing.specs.Performing.{is_active}
 use Rattle.circus_pair.specs.Sending.{takes_after}
 use Rattle.circus_pair.specs.Standing.{arrival_after}
 use Rattle.circus_wire.specs.Wire.{Beginning, hear_arrival, told_return}
-use Rattle.circus_wire.specs.WireActs.{WireAct, WireActs, begun, CallTo, AnswerTo, CameFrom, TickAll, StopOf, acts_at, purpose_of}
+use Rattle.circus_wire.specs.WireActs.{WireAct, WireActs, begun, CallTo, AnswerTo, CameFrom, TickAll, StopOf, acts_at, made_to, purpose_of}
 use Rattle.circus_wire.specs.WireStanding.{pair_of}
 use Rattle.circus_wire.specs.declared.delivery.Heard.{Heard}
 use Rattle.circus_wire.specs.declared.delivery.Heard.TheVariants.{Dropped, Taken, Called, Returned}
@@ -62,6 +62,7 @@ use Rattle.circus_member_theory.specs.Made.{asks, requests}
 use Rattle.circus_member_theory.specs.Requests.{is_no_ask, is_request, for_what_came, lookups, requests_owed}
 use Rattle.circus_headline_theory.specs.Owed.Living.{made_in, told_in}
 use Rattle.circus_world_theory.specs.Happened.{with_one}
+use Rattle.circus_world_theory.specs.NodeLives.{Events}
 use Rattle.circus_headline_theory.specs.Datagrams.Due.{WasSo, IsForAsk}
 use Rattle.circus_headline_theory.proofs.Datagrams.Asked.{call_was_due}
 use Rattle.circus_headline_theory.proofs.Datagrams.Membership.{in_first, in_second, in_map, mapped_in, filtered_in}
@@ -69,11 +70,13 @@ use Rattle.circus_headline_theory.proofs.Datagrams.Requested.{WasDue}
 use Rattle.circus_headline_theory.proofs.Datagrams.Returning.{is_so, return_was_due}
 use Rattle.circus_headline_theory.specs.NodeRun.{occurrence_by_record, accepted_answer, accepted_return, happens_by, past_of, runs_at_boot, IsOrderedFor, IsOrdered, IsNodeRun}
 use Rattle.circus_headline_theory.specs.Trace.{events_of, made_of, told_of, now, Rises, handed_over, acts_in_step, acts_of, gives_for_all, suspects_in, heard_in, SendsWhatIsOwed}
+use Rattle.circus_headline_theory.specs.Numbers.{HasNumbers}
 use Rattle.circus_headline_theory.proofs.Accepting.{purposed}
 use Rattle.circus_headline_theory.proofs.Asks.{callee_of, recorded, imported_recorded}
 use Rattle.circus_headline_theory.proofs.Agree.{Agree, was_below, was_booted, IsSince, agree_since}
 use Rattle.circus_headline_theory.proofs.Alike.{calls_same, news_same, step_same}
 use Rattle.circus_headline_theory.proofs.One.{no_more, there_is_one_record}
+use Rattle.circus_headline_theory.proofs.Sends.{made_behind}
 
 -- ---- a trace as it was
 
@@ -750,3 +753,52 @@ there_is_one_run d b node number troupe one other kept last h k rises events = (
         h.makes.differed
         ∙ (λ j. differences (home_in d node number troupe).place (boot_views d.troupes) (kept_is j) (f.past_is j))
         ∙ sym k.makes.differed
+
+-- ---- a trace as it was, by its events
+
+pub last_split : {X : Type 0} (xs : List X) → (xs ≡ []) ⊎ ((front : List X) × (x : X) × (xs ≡ front ++ x ∷ []))
+last_split [] = inl refl
+last_split (x ∷ xs) = elim (last_split xs) [
+  | inl none ↦ inr ([], x, ap (λ l. x ∷ l) none)
+  | inr some ↦ inr (x ∷ some.0, some.1, ap (λ l. x ∷ l) some.2)
+]
+
+was_behind : (t : Trace) (before later : Events) → events_of t ≡ before ++ later → (u : Trace) × WasTrace t u × (events_of u ≡ before)
+was_behind (booted made outputs) [] later is = (booted made outputs, refl, refl)
+was_behind (booted made outputs) (e ∷ before) later is = absurd (no_more e (before ++ later) (sym is))
+was_behind (stepped t at event made outputs) before later is = by_last (λ front are. was_behind t before front are) (last_split later)
+  where
+    this : Trace
+    this = stepped t at event made outputs
+
+    by_last : ((front : Events) → events_of t ≡ before ++ front → (u : Trace) × WasTrace t u × (events_of u ≡ before))
+        → (later ≡ []) ⊎ ((front : Events) × (e : ℕ × Event) × (later ≡ front ++ e ∷ [])) → (u : Trace) × WasTrace this u × (events_of u ≡ before)
+    by_last rest (inl none) = (this, inl refl, is ∙ ap (λ l. before ++ l) none ∙ append-nil before)
+    by_last rest (inr last) =
+        let both = same_from_push (events_of t) (before ++ last.0) (at, event) last.1 (is ∙ ap (λ l. before ++ l) last.2 ∙ sym (append_assoc before last.0 (last.1 ∷ []))) in
+        let u = rest last.0 both.0 in
+        (u.0, inr u.1, u.2)
+
+was_made : (b : Beginning) (t u : Trace) → WasTrace t u → (node : ℕ) → made_to node (acts_of b u) ≤ made_to node (acts_of b t)
+was_made b (booted made outputs) u same node = (let is = ap (λ x. made_to node (acts_of b x)) same in omega (arith, is))
+was_made b (stepped t at event made outputs) u (inl same) node = (let is = ap (λ x. made_to node (acts_of b x)) same in omega (arith, is))
+was_made b (stepped t at event made outputs) u (inr was) node =
+    (let low = was_made b t u was node in let more = made_behind node (acts_of b t) (acts_in_step b (acts_of b t) (came_by event) made) in omega (arith, low, more))
+
+-- a run with the first events of another one has a number for each call where that has
+pub numbers_before : (d : Deployment) (b : Behaviour) (node number : ℕ) (troupe : Troupe) (one other : Trace) (kept last : MemberRecord) → IsNodeRun d b node number troupe one kept
+    → IsNodeRun d b node number troupe other last → Rises one → (later : Events) → events_of one ≡ events_of other ++ later → HasNumbers d node one → HasNumbers d node other
+numbers_before d b node number troupe one other kept last h k rises later are numbers to =
+    let few = numbers to in
+    let less = was_made (beginning_of d node) one was.0 was.1 to in
+    let same = ap (made_to to) (same_acts (beginning_of d node) was.0 other f.same) in
+    omega (arith, few, less, same)
+  where
+    was : (t : Trace) × WasTrace one t × (events_of t ≡ events_of other)
+    was = was_behind one (events_of other) later are
+
+    other_rises : Rises other
+    other_rises = (rise_alike was.0 other was.2 (was_rising one was.0 rises was.1)).1
+
+    f : SoFar d b node number troupe one other kept last h k rises other_rises was.0 other
+    f = so_far d b node number troupe one other kept last h k rises other_rises was.0 other was.1 (trace_self other) was.2

@@ -1,5 +1,5 @@
 -- The Ringmaster's node is a run of it, whatever comes to it.
-use Rattle.std.proofs.Common.{◌≡◌, ℕ, ◌<◌, List, [], ◌∷◌, ◌++◌, append-nil, map, length, All, Option, None, Some, Result, Ok, Err, refl, sym, ap, subst, ◌∙◌, arith}
+use Rattle.std.proofs.Common.{◌≡◌, ℕ, ◌<◌, Bool, true, false, List, [], ◌∷◌, ◌++◌, append-nil, map, length, All, Option, None, Some, Result, Ok, Err, refl, sym, ap, subst, ◌∙◌, arith}
 use Rattle.std.specs.Prelude.{fold, if◌then◌else◌}
 use Rattle.std.specs.List.{flat_map}
 use Rattle.std.specs.Option.{option_map_or}
@@ -20,7 +20,7 @@ use Rattle.circus_model.specs.NextTurn.{NextTurn}
 use Rattle.circus_model.specs.declared.signature.Signature.{Signature}
 use Rattle.circus_wire.specs.Wire as wire
 use Rattle.circus_wire.specs.Wire.{WireState, Beginning, heard_from}
-use Rattle.circus_wire.specs.WireActs.{WireActs, begun, AnswerTo}
+use Rattle.circus_wire.specs.WireActs.{WireActs, begun, followed_by, AnswerTo, made_to}
 use Rattle.circus_wire.specs.WireStanding.{WireStands}
 use Rattle.circus_wire.specs.declared.delivery.Heard.{Heard}
 use Rattle.circus_wire.specs.declared.delivery.Heard.TheVariants.{Dropped, Taken, Called, Returned}
@@ -40,8 +40,9 @@ use Rattle.circus_node.specs.declared.event.Event.{Event}
 use Rattle.circus_node.specs.declared.event.Event.TheVariants as comes
 use Rattle.circus_node.specs.declared.event.Outputs.{Outputs}
 use Rattle.circus_world_theory.specs.Histories.{beginning_of}
-use Rattle.circus_world_theory.specs.NodeActs.{with_all, came_by, handed_by, wire_behind, acts_in, acts_at_boot}
+use Rattle.circus_world_theory.specs.NodeActs.{with_all, acts_of_datagram, came_by, handed_by, wire_behind, acts_in, acts_at_boot}
 use Rattle.circus_node.specs.Trace.{effects_in, Trace}
+use Rattle.circus_world_theory.proofs.Given.{with_both}
 use Rattle.circus_world_theory.proofs.Steps.{IsRead}
 use Rattle.circus_world_theory.specs.NodeLives.{Events, Comes}
 use Rattle.circus_world_theory.proofs.Timely.Lives.{acting_by}
@@ -52,8 +53,9 @@ use Rattle.circus_headline_theory.proofs.Datagrams.AtPairs.{other_by}
 use Rattle.circus_headline_theory.proofs.Datagrams.Theorem.{is_read}
 use Rattle.circus_node.specs.Trace as trace
 use Rattle.circus_headline_theory.specs.Trace.{handed_over, acts_of, acts_in_step, gives_for_all, heard_in, SendsWhatIsOwed}
+use Rattle.circus_headline_theory.specs.Numbers.{HasNumbers}
 use Rattle.circus_headline_theory.specs.Lived.{then_on, with_events}
-use Rattle.circus_headline_theory.proofs.Sends.{ComeOfPeers, step_sends, boot_sends}
+use Rattle.circus_headline_theory.proofs.Sends.{ComeOfPeers, step_sends, step_spends, boot_sends, boot_spends}
 use Rattle.circus_headline_theory.specs.RingRun.{request_heard, answer_to, kept_behind, request_in, requests_of, AnswersRequests, IsRingRun}
 
 abbrev asked : Requests → List Request
@@ -85,6 +87,49 @@ handed_alike b acts w [] same are = refl
 handed_alike b acts w (makes.Call to message purpose ∷ effects) same are = absurd are
 handed_alike b acts w (makes.Answer caller message ∷ effects) same are =
     (λ i. (if is_sendable (same i) message then AnswerTo caller message ∷ [] else []) ++ handed_alike b acts w effects same are i)
+
+-- ---- it makes no calls, so each of them has a number
+
+module _ (d : Deployment) (node : ℕ) where
+  abbrev pairs : Beginning
+  pairs = beginning_of d node
+
+  came_uncalled : (event : Event) (to : ℕ) (acts : WireActs Purpose) → made_to to (with_all acts (came_by event)) ≡ made_to to acts
+  unfolding made_to
+  came_uncalled (comes.Datagram from bytes) to acts = by_segment (reading bytes)
+    where
+      by_segment : (r : Result Piece SegmentFault) → made_to to (with_all acts (acts_of_datagram from r)) ≡ made_to to acts
+      by_segment (Ok s) = refl
+      by_segment (Err fault) = refl
+  came_uncalled comes.Tick to acts = refl
+  came_uncalled (comes.Down other) to acts = refl
+  came_uncalled comes.Join to acts = refl
+
+  answered_uncalled : (behind : WireActs Purpose) (effects : List Effect) (to : ℕ) (acts : WireActs Purpose) → AreAnswers effects
+      → made_to to (with_all acts (flat_map (handed_over pairs behind) effects)) ≡ made_to to acts
+  unfolding made_to
+  answered_uncalled behind [] to acts are = refl
+  answered_uncalled behind (makes.Call other message purpose ∷ effects) to acts are = absurd are
+  answered_uncalled behind (makes.Answer caller message ∷ effects) to acts are = by_test (is_sendable pairs.format message) (λ x. answered_uncalled behind effects to x are)
+    where
+      by_test : (t : Bool) → ((x : WireActs Purpose) → made_to to (with_all x (flat_map (handed_over pairs behind) effects)) ≡ made_to to x)
+          → made_to to (with_all acts ((if t then AnswerTo caller message ∷ [] else []) ++ flat_map (handed_over pairs behind) effects)) ≡ made_to to acts
+      by_test true rest = rest (followed_by acts (AnswerTo caller message))
+      by_test false rest = rest acts
+
+  uncalled : (t : Trace) (to : ℕ) → AnswersRequests d node t → made_to to (acts_of pairs t) ≡ 0
+  unfolding made_to
+  uncalled (trace.booted made outputs) to answers = ap (λ l. made_to to (with_all begun (acts_in_step pairs begun [] l))) answers
+  uncalled (trace.stepped t at event made outputs) to answers =
+      let acts = acts_of pairs t in
+      let are = subst AreAnswers (sym answers.1) (are_answers (kept_behind d node (requests_of d node t)) (request_in d node (requests_of d node t) acts event)) in
+      ap (made_to to) (with_both acts (came_by event) (flat_map (handed_over pairs (with_all acts (came_by event))) made))
+      ∙ answered_uncalled (with_all acts (came_by event)) made to (with_all acts (came_by event)) are
+      ∙ came_uncalled event to acts
+      ∙ uncalled t to answers.0
+
+pub ring_has_numbers : (d : Deployment) (node : ℕ) (t : Trace) (views : List View) → IsRingRun d node t views → HasNumbers d node t
+ring_has_numbers d node t views run to = (let none = uncalled d node t to run.answers in omega (arith, none))
 
 -- ---- one thing is heard
 
@@ -174,7 +219,7 @@ module _ {M : Type 0} (declared : M → Signature) (turn : M → List ValueTree 
       same_request (comes.Down down) is segment = refl
       same_request comes.Join is segment = refl
 
-      module _ (step : ℕ) (ended : NodeState M × Outputs) (ends : node_step.step_node declared turn step event n ≡ Ok ended) where
+      module _ (step : ℕ) where
         abbrev new : Requests
         new = request_in d node (requests_of d node t) (acts_of b t) event
 
@@ -190,8 +235,16 @@ module _ {M : Type 0} (declared : M → Signature) (turn : M → List ValueTree 
             (handed_alike b (with_all (acts_of b t) (came_by event)) (wire_behind event n) made (format_behind event n ∙ rings.stands.format)
             (subst AreAnswers (sym so.makes_so) (are_answers (kept_then t) new)))
 
-        rings_on : Rings (trace.stepped t step event made ended.1) ended.0
-        rings_on =
+        -- there is a number for each call of it, as there is none
+        pub rings_spent : (peer : ℕ) → node_step.step_node declared turn step event n ≡ Err peer → ⊥
+        rings_spent peer ends =
+            let spent = step_spends declared turn b (omega arith) (acts_of b t) step event n peer rings.stands rings.of_peers (can_come event other) read ends in
+            let same = ap (λ l. made_to peer (with_all (acts_of b t) l)) acts_same in
+            let none = uncalled d node (trace.stepped t step event made (record { gives = []; suspects = []; differences = [] })) peer (rings.answers, so.makes_so) in
+            omega (arith, spent, same, none)
+
+        rings_on : (ended : NodeState M × Outputs) → node_step.step_node declared turn step event n ≡ Ok ended → Rings (trace.stepped t step event made ended.1) ended.0
+        rings_on ended ends =
             let s = step_sends declared turn b (omega arith) (acts_of b t) step event n ended rings.stands rings.of_peers (can_come event other) read ends in
             record {
               acting = (ends_by declared turn step event n ended ends).acting ∙ so.acting ∙ ap ringmaster (kept_more (requests_of d node t) new);
@@ -215,13 +268,21 @@ module _ {M : Type 0} (declared : M → Signature) (turn : M → List ValueTree 
     -- ---- boot
 
     module _ (first : M → List ValueTree) where
+      nothing : acts_at_boot declared turn first d None node ≡ []
+      nothing = elim (home_of d node) as (λ h. flat_map (handed_by (fresh_wire d node)) (made_at_boot declared turn first d h None).came.effects ≡ []) [ None ↦ refl | (Some home) ↦ refl ]
+
+      pub boot_rings_spent : (peer : ℕ) → node < length d.nodes → booting.boot_node declared turn first d None node ≡ Err peer → ⊥
+      boot_rings_spent peer within ends =
+          let spent = boot_spends declared turn first d None node peer within ends in
+          let same = ap (λ l. made_to peer (with_all begun l)) nothing in
+          let none = uncalled d node (trace.booted [] (record { gives = []; suspects = []; differences = [] })) peer refl in
+          omega (arith, spent, same, none)
+
       pub rings_at_boot : (n : NodeState M) (outputs : Outputs) → node < length d.nodes → booting.boot_node declared turn first d None node ≡ Ok (n, outputs) → Rings (trace.booted [] outputs) n
       rings_at_boot n outputs within is =
           let m = made_at_boot declared turn first d (home_of d node) None in
           let c = concludes (record { deployment = d; wire = fresh_wire d node; acting = m.acting; dropped = 0 }) [] m (n, outputs) is in
           let s = boot_sends declared turn first d None node (n, outputs) within is in
-          let nothing : acts_at_boot declared turn first d None node ≡ [] =
-          elim (home_of d node) as (λ h. flat_map (handed_by (fresh_wire d node)) (made_at_boot declared turn first d h None).came.effects ≡ []) [ None ↦ refl | (Some home) ↦ refl ] in
           record {
             acting = c.acting ∙ elim (home_of d node) as (λ h. (made_at_boot declared turn first d h None).acting ≡ ringmaster (kept_after d.troupes [])) [ None ↦ refl | (Some home) ↦ refl ];
             stands = subst (λ l. WireStands n.wire b (with_all begun l)) nothing s.stands;

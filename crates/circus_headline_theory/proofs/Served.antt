@@ -38,7 +38,7 @@ use Rattle.circus_serve.proofs.SuspectLemmas.{suspects_others}
 use Rattle.circus_world_theory.specs.NodeLives.{IsOfBytes}
 use Rattle.circus_headline_theory.specs.Datagrams.Lives.{IsOfOther}
 use Rattle.circus_headline_theory.specs.Trace.{now, Rises, ComesFromOthers}
-use Rattle.circus_headline_theory.proofs.Stood.{core_is_a_node_run}
+use Rattle.circus_headline_theory.proofs.Stood.{is_run_of_core}
 use Rattle.circus_headline_theory.specs.ServedRun.{IsOfOctets, own_happenings, shown_of, IsNumbered, IsServedRun, IsServedSoFar}
 
 -- ---- what happened
@@ -190,7 +190,7 @@ module _ {M : Type 0} (declared : M → Signature) (turn : M → List ValueTree 
           lived = r.lived;
           shows = r.shows;
           numbered = r.numbered;
-          is = core_is_a_node_run declared turn first d own node lawful can number troupe r.lived s.node kept r.stands r.rises r.others hosts there at;
+          is = (is_run_of_core declared turn first d own node lawful can number troupe hosts there r.lived s.node kept r.stands r.rises r.others at).run;
         }
 
     module _ (begun_ : NodeState M) (outputs : Outputs) (takes : List TakenFrom) (boots : booting.boot_node declared turn first d (Some own) node ≡ Ok (begun_, outputs))

@@ -2,6 +2,7 @@ pub mod Owed
 pub mod Datagrams
 pub mod Facts
 pub mod Trace
+pub mod Numbers
 pub mod NodeRun
 pub mod Lived
 pub mod ServedRun

@@ -1,5 +1,5 @@
 // What holds of every node by itself, of every served node, and of every run.
-ghost use Rattle.std.specs.Prelude.{List, Option, ◌≡◌, ℕ, All, Some, slice_get, Ok};
+ghost use Rattle.std.specs.Prelude.{List, ◌∷◌, ◌++◌, Option, ◌≡◌, ℕ, ◌<◌, All, Some, slice_get, Ok, Err};
 ghost use Rattle.circus_collate.specs.declared.deployment.Deployment.{Deployment};
 ghost use Rattle.circus_model.specs.Behaviour.{Behaviour, behaviours, IsModule};
 ghost use Rattle.circus_schedule.specs.declared.line.Line.{Line};
@@ -11,15 +11,19 @@ ghost use Rattle.circus_headline_theory.specs.Coming.{NodesGetWhatLinesGive};
 ghost use Rattle.circus_headline_theory.specs.Headline.{Headline};
 ghost use Rattle.circus_node.specs.Accepting.{troupe_at};
 ghost use Rattle.circus_collate.specs.declared.deployment.Troupe.{Troupe};
+ghost use Rattle.circus_collate.specs.declared.view.View.{View};
 ghost use Rattle.circus_record.specs.declared.record.MemberRecord.{MemberRecord};
 ghost use Rattle.circus_performing.specs.Record.{behaviour};
 ghost use Rattle.circus_node.specs.Booting.{CanBoot};
 ghost use Rattle.circus_node.specs.NodeState.{NodeState, member_record};
+ghost use Rattle.circus_node.specs.Step.{step_node};
 ghost use Rattle.circus_node.specs.Trace.{Trace, StandsFor};
 ghost use Rattle.circus_node.specs.declared.event.Event.{Event};
-ghost use Rattle.circus_world_theory.specs.NodeLives.{Events, IsLife};
+ghost use Rattle.circus_world_theory.specs.NodeLives.{Events, IsOfBytes, IsLife};
 ghost use Rattle.circus_headline_theory.specs.Datagrams.Lives.{IsOfOther};
-ghost use Rattle.circus_headline_theory.specs.Trace.{events_of, Rises, ComesFromOthers};
+ghost use Rattle.circus_headline_theory.specs.RingRun.{IsRingRun};
+ghost use Rattle.circus_headline_theory.specs.Trace.{events_of, now, Rises, ComesFromOthers};
+ghost use Rattle.circus_headline_theory.specs.Numbers.{HasNumbers};
 ghost use Rattle.circus_headline_theory.specs.NodeRun.{IsNodeRun, past_of};
 ghost use Rattle.circus_headline_theory.specs.Lived.{trace_behind};
 ghost use Rattle.circus_node.specs.Alike.{declared_of, turn_of, first_of};
@@ -68,6 +72,44 @@ pub fn every_core_is_a_node_run<M: Module>()
         → troupe_at d node ≡ Some number → slice_get d.troupes number ≡ Some troupe
         → member_record last.acting ≡ Some kept
         → IsNodeRun d (behaviour M.declared M.turn M.first own) node number troupe t kept }
+{}
+
+/// Each call that was handed over along the trace of such a node has a number, and so it is along
+/// every run of the Ringmaster's node, which makes no calls (docs/PROTOCOL.md, "Paired messages").
+pub fn calls_have_numbers<M: Module>()
+    ensures core { (d : Deployment) (own : M) (node number : ℕ) (troupe : Troupe) (t : Trace)
+        (last : NodeState M)
+        → CanBoot d node (Some (M.declared own))
+        → StandsFor M.declared M.turn M.first d (Some own) node t last
+        → Rises t → ComesFromOthers d node t
+        → troupe_at d node ≡ Some number → slice_get d.troupes number ≡ Some troupe
+        → HasNumbers d node t }
+    ensures ring { (d : Deployment) (node : ℕ) (t : Trace) (views : List View)
+        → IsRingRun d node t views → HasNumbers d node t }
+{}
+
+/// Where no number is left to such a node, at boot or in a step behind a trace, no node run has a
+/// number for each call that was told of the same up to there, whatever came to it then.
+pub fn spent_nodes_have_no_run<M: Module>()
+    ensures boot { (d : Deployment) (own : M) (node number peer : ℕ) (troupe : Troupe)
+        (lived : Trace) (kept : MemberRecord)
+        → CanBoot d node (Some (M.declared own))
+        → booting.boot_node M.declared M.turn M.first d (Some own) node ≡ Err peer
+        → troupe_at d node ≡ Some number → slice_get d.troupes number ≡ Some troupe
+        → IsNodeRun d (behaviour M.declared M.turn M.first own) node number troupe lived kept
+        → Rises lived → HasNumbers d node lived → ⊥ }
+    ensures step { (d : Deployment) (own : M) (node number peer : ℕ) (troupe : Troupe) (t : Trace)
+        (n : NodeState M) (at : ℕ) (event : Event) (later : Events) (lived : Trace)
+        (kept : MemberRecord)
+        → CanBoot d node (Some (M.declared own))
+        → StandsFor M.declared M.turn M.first d (Some own) node t n
+        → Rises t → ComesFromOthers d node t
+        → now t < at → IsOfOther d node event → IsOfBytes event
+        → step_node M.declared M.turn at event n ≡ Err peer
+        → troupe_at d node ≡ Some number → slice_get d.troupes number ≡ Some troupe
+        → IsNodeRun d (behaviour M.declared M.turn M.first own) node number troupe lived kept
+        → Rises lived → events_of lived ≡ events_of t ++ (at, event) ∷ later
+        → HasNumbers d node lived → ⊥ }
 {}
 
 /// There is one record for what happened: two node runs of the same member that are told of the same

@@ -4,16 +4,17 @@
 //! node run, without the state of a member or of a node, and `Lived.antt` which trace a node leaves that boots and steps; `ServedRun.antt`
 //! when what happened to a served node is one. `Events.antt` says what lines give to a node, `Legality.antt` which line may stand behind
 //! others, `Sendings.antt` what a node sent and gave, `RingRun.antt` when a trace is a run of the Ringmaster's node, and `Headline.antt`
-//! puts them together; `Coming.antt` says what comes to a node of a world.
+//! puts them together; `Coming.antt` says what comes to a node of a world. `Numbers.antt` says that each call along a trace has a number.
 //!
 //! In `proofs/`, node runs: what arrives and is accepted (`Accepting.antt`), what is handed over and given (`Handing.antt`, `Sends.antt`),
 //! what a record says alike as it grows (`Asks.antt`, `Growing.antt`, `Since.antt`), event by event (`Course.antt`) to the end
-//! (`Theorem.antt`); `Stood.antt` has it of nodes that stand for a trace, `One.antt` that there is one record for what happened,
-//! `Agree.antt` and `Alike.antt` that two records agree as far as their pasts do, `OneRun.antt` that there is one run for given events,
-//! `Served.antt` and `PlainServed.antt` go along the takes of a served node. Whole runs: what a line is to a node (`Walks.antt`), what
-//! lines are (`Along.antt`), and how the node began (`Boots.antt`); that all that is sent is bytes (`Spelled.antt`, `Octets.antt`), so that
-//! each node lives by itself (`Worlds.antt`); that lines are legal (`Legality.antt`); what comes to the Ringmaster's node (`Ring.antt`); the
-//! headline of worlds (`Headlines.antt`, `Runs.antt`), and of worlds of behaviours (`Plain.antt`).
+//! (`Theorem.antt`); `Stood.antt` has it of nodes that stand for a trace, and of a step in which no number is left; `One.antt` has that
+//! there is one record for what happened, `Agree.antt` and `Alike.antt` that two records agree as far as their pasts do, `OneRun.antt`
+//! that there is one run for given events, `Served.antt` and `PlainServed.antt` go along the takes of a served node. Whole runs: what a
+//! line is to a node (`Walks.antt`), what lines are (`Along.antt`), and how the node began (`Boots.antt`); that all that is sent is bytes
+//! (`Spelled.antt`, `Octets.antt`), so that each node lives by itself (`Worlds.antt`); that lines are legal (`Legality.antt`); what comes
+//! to the Ringmaster's node (`Ring.antt`); the headline of worlds (`Headlines.antt`, `Runs.antt`), and of worlds of behaviours
+//! (`Plain.antt`).
 //!
 //! What a member makes in a step is owed in it, and nothing else (`laws::owed`). `specs/Owed/Living.antt`
 //! says what a member has made, and told, by the end of a past. In `proofs/Owed/`, `Going.antt` says
@@ -66,8 +67,8 @@ pub use laws::owed::{
 };
 pub use laws::rules::returns_are_accepted_by_records;
 pub use laws::{
-    every_core_is_a_node_run, every_node_is_a_node_run, nodes_get_what_lines_give,
-    nodes_of_worlds_live, nodes_send_what_they_give, plain_served_nodes_are_node_runs,
-    plain_worlds_keep_the_headline, served_nodes_are_node_runs, there_is_one_record,
-    there_is_one_run, worlds_keep_the_headline,
+    calls_have_numbers, every_core_is_a_node_run, every_node_is_a_node_run,
+    nodes_get_what_lines_give, nodes_of_worlds_live, nodes_send_what_they_give,
+    plain_served_nodes_are_node_runs, plain_worlds_keep_the_headline, served_nodes_are_node_runs,
+    spent_nodes_have_no_run, there_is_one_record, there_is_one_run, worlds_keep_the_headline,
 };

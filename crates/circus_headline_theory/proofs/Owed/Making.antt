@@ -41,7 +41,7 @@ use Rattle.circus_headline_theory.specs.Owed.Makes.{differences_in}
 -- ---- what is told is given
 
 module _ {M : Type 0} where
-  concluded_tells : (n : NodeState M) (gives : List Give) (m : Made M) (ended : NodeState M × Outputs) → node_step.conclude_step n gives m.came ≡ Ok ended
+  pub concluded_tells : (n : NodeState M) (gives : List Give) (m : Made M) (ended : NodeState M × Outputs) → node_step.conclude_step n gives m.came ≡ Ok ended
       → ended.1.differences ≡ m.came.differences
   concluded_tells n gives m ended is = by_sending (all_handed (sent n.wire gives) m.came.effects) is
     where
