@@ -1,13 +1,14 @@
 -- There is one trace by which a record is audited: that of a node which lives through its events.
-use Rattle.std.proofs.Common.{ℕ, ◌≡◌, ◌∙◌, ◌+◌, List, [], ◌∷◌, ◌++◌, map, None, Some, refl, sym, ap, subst, arith}
-use Rattle.std.proofs.lemmas.List.{map-append, same_from_push}
+use Rattle.std.proofs.Common.{ℕ, ◌≡◌, ◌∙◌, suc, ◌+◌, List, [], ◌∷◌, ◌++◌, length, map, Option, None, Some, refl, sym, ap, subst, arith, length-append}
+use Rattle.std.proofs.lemmas.List.{map-append}
 use Rattle.std.proofs.lemmas.Option.{same_Some}
 use Rattle.circus_collate.specs.declared.deployment.Deployment.{Deployment}
 use Rattle.circus_model.specs.Behaviour.{Behaviour}
 use Rattle.circus_record.specs.declared.record.MemberRecord.{MemberRecord}
-use Rattle.circus_performing.proofs.Records.{none_is_some}
 use Rattle.circus_node.specs.Accepting.{troupe_at}
 use Rattle.circus_node.specs.Trace.{Trace, booted, stepped}
+use Rattle.circus_node.specs.declared.event.Event.{Event}
+use Rattle.circus_world_theory.specs.NodeLives.{Events}
 use Rattle.circus_headline_theory.specs.Trace.{events_of, now, Rises}
 use Rattle.circus_headline_theory.specs.NodeRun.{IsNodeRun}
 use Rattle.circus_headline_theory.specs.ServedRun.{IsNumbered}
@@ -29,16 +30,40 @@ pub rises : (t : Trace) → IsNumbered t → Rises t
 rises (booted made outputs) numbered = tt
 rises (stepped t at event made outputs) numbered = (rises t numbered.0, let is = numbered.1 in omega (arith, is))
 
-pub same_course : (t u : Trace) → IsNumbered t → IsNumbered u → came_in t ≡ came_in u → (now t ≡ now u) × (events_of t ≡ events_of u)
-same_course (booted made outputs) (booted others sent) one two same = (refl, refl)
-same_course (booted made outputs) (stepped u k f others sent) one two same = absurd (none_is_some (same_from_push [] (came_in u) None (Some f) same).1)
-same_course (stepped t at e made outputs) (booted others sent) one two same = absurd (none_is_some (sym (same_from_push (came_in t) [] (Some e) None same).1))
-same_course (stepped t at e made outputs) (stepped u k f others sent) one two same =
-    let both = same_from_push (came_in t) (came_in u) (Some e) (Some f) same in
-    let before = same_course t u one.0 two.0 both.0 in
-    let at_is : at ≡ k = one.1 ∙ ap (λ n. n + 1) before.0 ∙ sym two.1 in
-    let event_is : e ≡ f = same_Some e f both.1 in
-    (at_is, λ j. before.1 j ++ (at_is j, event_is j) ∷ [])
+-- the first in this step
+abbrev pub events_from : ℕ → List (Option Event) → Events
+events_from at [] = []
+events_from at (None ∷ came) = events_from (at + 1) came
+events_from at (Some event ∷ came) = (at, event) ∷ events_from (at + 1) came
+
+events_both : (at : ℕ) (before later : List (Option Event)) → events_from at (before ++ later) ≡ events_from at before ++ events_from (at + length before) later
+events_both at [] later = (let same : at ≡ at + 0 = omega arith in ap (λ n. events_from n later) same)
+events_both at (None ∷ before) later =
+    (let same : at + 1 + length before ≡ at + suc (length before) = omega arith in events_both (at + 1) before later ∙ ap (λ n. events_from (at + 1) before ++ events_from n later) same)
+events_both at (Some event ∷ before) later =
+    (let same : at + 1 + length before ≡ at + suc (length before) = omega arith in
+    ap (λ l. (at, event) ∷ l) (events_both (at + 1) before later ∙ ap (λ n. events_from (at + 1) before ++ events_from n later) same))
+
+as_many : (t : Trace) → IsNumbered t → length (came_in t) ≡ now t + 1
+as_many (booted made outputs) numbered = refl
+as_many (stepped t at event made outputs) numbered =
+    (let before = as_many t numbered.0 in let one = length-append (came_in t) (Some event ∷ []) in let is = numbered.1 in omega (arith, before, one, is))
+
+events_came : (t : Trace) → IsNumbered t → events_of t ≡ events_from 0 (came_in t)
+events_came (booted made outputs) numbered = refl
+events_came (stepped t at event made outputs) numbered =
+    let at_is : at ≡ 0 + length (came_in t) = (let many = as_many t numbered.0 in let is = numbered.1 in omega (arith, many, is)) in
+    (λ j. events_came t numbered.0 j ++ (at_is j, event) ∷ []) ∙ sym (events_both 0 (came_in t) (Some event ∷ []))
+
+-- and then others
+pub events_then : (t lived : Trace) (event : Event) (others : List (Option Event)) → IsNumbered t → IsNumbered lived → came_in lived ≡ came_in t ++ Some event ∷ others
+    → events_of lived ≡ events_of t ++ (now t + 1, event) ∷ events_from (now t + 1 + 1) others
+events_then t lived event others one two came =
+    let next : 0 + length (came_in t) ≡ now t + 1 = (let many = as_many t one in omega (arith, many)) in
+    events_came lived two
+    ∙ ap (events_from 0) came
+    ∙ events_both 0 (came_in t) (Some event ∷ others)
+    ∙ (λ j. sym (events_came t one) j ++ (next j, event) ∷ events_from (next j + 1) others)
 
 -- ---- a run of a member
 
@@ -52,7 +77,10 @@ module _ (d : Deployment) (program : List Behaviour) (given : Given) (number : �
   audited_is lived a = by_run (subst (λ o. HasRunAt d program given.node o lived given.member given.views) hosts a.run)
     where
       events : events_of lived ≡ events_of t
-      events = (same_course lived t a.numbered numbered (sym (came_events lived) ∙ ap (map (λ (e : GivenEvent). e.event)) (sym a.events) ∙ sym came)).1
+      events =
+          events_came lived a.numbered
+          ∙ ap (events_from 0) (sym (came_events lived) ∙ ap (map (λ (e : GivenEvent). e.event)) (sym a.events) ∙ sym came)
+          ∙ sym (events_came t numbered)
 
       by_run : HasRun d program given.node number lived given.member → IsThis lived
       by_run h =

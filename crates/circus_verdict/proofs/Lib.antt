@@ -2,7 +2,6 @@ pub mod BesideLemmas
 pub mod Standing
 pub mod Awaiting
 pub mod LivedLemmas
-pub mod Spending
 pub mod Auditing
 pub mod Judging
 pub mod Ringing

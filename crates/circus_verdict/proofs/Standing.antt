@@ -20,6 +20,7 @@ use Rattle.circus_performing.specs.Record as records
 use Rattle.circus_performing.specs.Record.{IsRecord, HaveEnded}
 use Rattle.circus_performing.proofs.Records.{none_is_some}
 use Rattle.circus_member_theory.specs.Stands.{IsPerformed, IsUnderWay, ArePerformed, IsIdle, IsBusy, Stands}
+use Rattle.circus_headline_theory.proofs.OneRun.{last_split}
 use Rattle.circus_verdict.specs.Beside.{IsSoFar, IsRight}
 
 -- ---- lists and options
@@ -34,13 +35,6 @@ some_is (Some x) so = (x, refl, so)
 
 some_so : {A : Type 0} (o : Option A) (P : A → Type 0) (x : A) → o ≡ Some x → P x → IsSomeAnd o P
 some_so o P x is so = subst (λ p. IsSomeAnd p P) (sym is) so
-
-last_split : {X : Type 0} (xs : List X) → (xs ≡ []) ⊎ ((front : List X) × (x : X) × (xs ≡ front ++ x ∷ []))
-last_split [] = inl refl
-last_split (x ∷ xs) = elim (last_split xs) [
-  | inl none ↦ inr ([], x, ap (λ l. x ∷ l) none)
-  | inr some ↦ inr (x ∷ some.0, some.1, ap (λ l. x ∷ l) some.2)
-]
 
 at_end : {X : Type 0} (xs : List X) (x : X) → slice_get (xs ++ x ∷ []) (length xs) ≡ Some x
 at_end [] x = refl

@@ -15,12 +15,12 @@ use Rattle.circus_node.specs.declared.event.Event.TheVariants as comes
 use Rattle.circus_node.specs.Trace.{Trace, booted, stepped}
 use Rattle.circus_world.specs.Legal.{is_spare}
 use Rattle.circus_headline_theory.specs.Trace.{told_of}
+use Rattle.circus_headline_theory.specs.Numbers.{HasNumbers}
 use Rattle.circus_headline_theory.specs.NodeRun.{IsNodeRun}
 use Rattle.circus_headline_theory.specs.RingRun.{IsRingRun}
 use Rattle.circus_headline_theory.specs.ServedRun.{IsNumbered}
 use Rattle.circus_audit.specs.declared.given.Given.{Given}
 use Rattle.circus_audit.specs.declared.given.GivenEvent.{GivenEvent}
-use Rattle.circus_verdict.specs.Spent.{IsSpent}
 
 -- ---- what a record says of a trace: boot and what came then, what was given for it, and which replies differed
 
@@ -99,7 +99,7 @@ pub record IsAuditedBy (d : Deployment) (program : List Behaviour) (given : Give
   pub joins : JoinsSo (is_spare d given.node) given.events
   pub declares : Awaits lived []
   -- and each call has a number
-  pub numbers : IsSpent d program given → ⊥
+  pub numbers : HasNumbers d given.node lived
   pub run : HasRunAt d program given.node (troupe_at d given.node) lived given.member given.views
 
 pub record IsAudited (d : Deployment) (program : List Behaviour) (given : Given) : Type 0 where

@@ -1,4 +1,3 @@
-pub mod Spent
 pub mod Audited
 pub mod Beside
 pub mod Verdict

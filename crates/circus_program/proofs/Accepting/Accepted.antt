@@ -29,7 +29,7 @@ use Rattle.circus_world_theory.proofs.Lawful.{Lawful}
 use Rattle.circus_world_theory.proofs.Timely.Nodes.{at_home}
 use Rattle.circus_headline_theory.specs.RingRun.{IsRingRun}
 use Rattle.circus_headline_theory.proofs.Ring.{ring_run}
-use Rattle.circus_headline_theory.proofs.Stood.{core_is_a_node_run}
+use Rattle.circus_headline_theory.proofs.Stood.{is_run_of_core}
 use Rattle.circus_audit.specs.Possible.{IsPossible}
 use Rattle.circus_audit.specs.declared.given.Given.{Given}
 use Rattle.circus_audit.specs.declared.given.GivenEvent.{GivenEvent}
@@ -159,8 +159,8 @@ module _ (plan : Plan) (is : IsPlan plan) (node : ℕ) (within : node < length p
                   let troupe = h.run.troupe in
                   let home = at_home lawful.declared lawful.turn lawful.first lawful.all_lawful d node h.number troupe own.0 h.hosts h.run.is_troupe is.deployed
                   (can_own.fits h.number (lawful.declared own.0) h.hosts refl) in
-                  let run = core_is_a_node_run lawful.declared lawful.turn lawful.first d own.0 node lawful.all_lawful can_own h.number troupe r.lived last.node kept stands (rises r.lived r.numbered)
-                  r.others h.hosts h.run.is_troupe (ap member_record acting) in
+                  let run = (is_run_of_core lawful.declared lawful.turn lawful.first d own.0 node lawful.all_lawful can_own h.number troupe h.hosts h.run.is_troupe r.lived last.node kept stands (rises r.lived r.numbered)
+                  r.others (ap member_record acting)).run in
                   member_possible plan named b (lawful.all_lawful own.0) node h.number troupe (can_own.fits h.number (lawful.declared own.0) h.hosts refl) h.hosts is_module kept r.lived run r.numbered
                   r.others
                   (heard lawful.declared lawful.turn lawful.first lawful.all_lawful plan named node h.number troupe own.0 can_own h.hosts h.run.is_troupe home r.lived last.node stands r.numbered r.others).octets

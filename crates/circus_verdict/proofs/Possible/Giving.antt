@@ -73,7 +73,7 @@ use Rattle.circus_headline_theory.proofs.Owed.Lives.{rises}
 use Rattle.circus_headline_theory.proofs.Owed.Requesting.{asked_all}
 use Rattle.circus_headline_theory.proofs.Owed.States.{are_returned}
 use Rattle.circus_headline_theory.proofs.Spelled.{sent_octets, message_octets}
-use Rattle.circus_headline_theory.proofs.Stood.{core_is_a_node_run}
+use Rattle.circus_headline_theory.proofs.Stood.{is_run_of_core}
 use Rattle.circus_audit.specs.Possible.{CanBeGiven}
 use Rattle.circus_verdict.proofs.Auditing as auditing
 use Rattle.circus_verdict.proofs.Possible.Hearing.{HearsOctets, HasHeard, has_heard, all_well, rises_so}
@@ -129,10 +129,10 @@ module _ {M : Type 0} (declared : M → Signature) (turn : M → List ValueTree 
     kept_is = ap member_record (is_life declared turn first lawful d good node number troupe own hosts home p n.acting f.goes.lives)
 
     run : IsNodeRun d b node number troupe t kept
-    run = core_is_a_node_run declared turn first d own node lawful can number troupe t n kept stands (auditing.rises t numbered) others hosts there kept_is
+    run = (is_run_of_core declared turn first d own node lawful can number troupe hosts there t n kept stands (auditing.rises t numbered) others kept_is).run
 
     past_is : past_of d b node number troupe kept t ≡ p
-    past_is = f.past_is kept (says_same place views begins (first own) p kept)
+    past_is = f.leaves.past_is kept (says_same place views begins (first own) p kept)
 
     says_call : (q : Past) (to : ℕ) (message : List ℕ) (purpose : Purpose) → CallIsDue place views begins (first own) kept q to message purpose → AreOctets message
     says_call =
@@ -216,7 +216,7 @@ module _ {M : Type 0} (declared : M → Signature) (turn : M → List ValueTree 
   gives_well (trace.booted made_ outputs) n stands numbered others =
       let t = trace.booted (effects_at_boot declared turn first d (Some own) node) outputs in
       let acts = boot_acts declared turn first d own node in
-      let f = follows_at_boot declared turn first lawful d good node number troupe own hosts home n outputs can.within there stands.0 in
+      let f = follows_at_boot declared turn first lawful d good node number troupe own hosts home can.within there n outputs stands.0 in
       let g = boot_gives declared turn first d (Some own) node (HaveGiven (beginning_of d node)) (n, outputs) can.within (given_carries (beginning_of d node)) stands.0 in
       record {
         of = boot_is_of declared turn first (Ok (n, outputs)) d (Some own) node can stands.0;
@@ -234,8 +234,8 @@ module _ {M : Type 0} (declared : M → Signature) (turn : M → List ValueTree 
       let acts = with_all h.acts (acts_in declared turn at event stands.0) in
       let early = h.before in
       let number_is = numbered.1 in
-      let f = follows_on declared turn first lawful d good node number troupe own hosts home t h.past_is h.acts stands.0 h.follows at event (n, outputs) (omega (arith, early, number_is)) others.2 others.1
-      stands.2 in
+      let f = follows_on declared turn first lawful d good node number troupe own hosts home t h.past_is h.acts stands.0 h.follows at event (omega (arith, early, number_is)) others.2 others.1
+      (n, outputs) stands.2 in
       let g = step_gives declared turn b_ (HaveGiven b_) (omega arith) h.acts at event stands.0 (n, outputs) (given_brings b_ h.acts event) h.follows.goes.stands
       (can_come h.acts h.past_is t stands.0 h.follows event others.1) (is_read event others.2) stands.2 in
       record {

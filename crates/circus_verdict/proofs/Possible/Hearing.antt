@@ -90,15 +90,15 @@ module _ {M : Type 0} (declared : M → Signature) (turn : M → List ValueTree 
         past_is = booted;
         acts = boot_acts declared turn first d own node;
         before = omega arith;
-        follows = follows_at_boot declared turn first lawful d good node number troupe own hosts home n outputs within there stands.0;
+        follows = follows_at_boot declared turn first lawful d good node number troupe own hosts home within there n outputs stands.0;
         octets = tt;
       })
   has_heard (trace.stepped t at event made outputs) n stands rises others =
       let h = has_heard t stands.0 stands.1 rises.0 others.0 in
       let before = h.before in
       let later = rises.1 in
-      let f = follows_on declared turn first lawful d good node number troupe own hosts home t h.past_is h.acts stands.0 h.follows at event (n, outputs) (omega (arith, before, later)) others.2 others.1
-      stands.2 in
+      let f = follows_on declared turn first lawful d good node number troupe own hosts home t h.past_is h.acts stands.0 h.follows at event (omega (arith, before, later)) others.2 others.1
+      (n, outputs) stands.2 in
       subst (λ l. HasHeard (trace.stepped t at event l outputs) n) (sym stands.3)
       (record {
         past_is = _;

@@ -16,10 +16,10 @@ use Rattle.circus_collate.specs.declared.view.View.{View}
 use Rattle.circus_headline_theory.specs.NodeRun.{state_at_activation}
 use Rattle.circus_headline_theory.specs.RingRun.{IsRingRun}
 use Rattle.circus_headline_theory.specs.Trace.{told_of}
+use Rattle.circus_headline_theory.specs.Numbers.{HasNumbers}
 use Rattle.circus_headline_theory.specs.ServedRun.{IsNumbered}
 use Rattle.circus_audit.specs.declared.given.Given.{Given}
 use Rattle.circus_audit.specs.declared.given.GivenEvent.{GivenEvent}
-use Rattle.circus_verdict.specs.Spent.{IsSpent}
 use Rattle.circus_verdict.specs.Audited.{events_in, JoinsSo, Awaits, IsRunOf}
 use Rattle.circus_verdict.specs.Seen.Living.{HasLived, EndsAmong}
 
@@ -47,7 +47,7 @@ pub record AreEvents (d : Deployment) (program : List Behaviour) (given : Given)
   pub numbered : IsNumbered lived
   pub joins : JoinsSo (is_spare d given.node) given.events
   pub declares : Awaits lived []
-  pub numbers : IsSpent d program given → ⊥
+  pub numbers : HasNumbers d given.node lived
 
 -- and a member has this record then, and became active with this state
 pub record HasRunSo (d : Deployment) (program : List Behaviour) (given : Given) (kept : MemberRecord) (begun : List ValueTree) : Type 0 where

@@ -79,8 +79,10 @@ module _ {M : Type 0} (declared : M → Signature) (turn : M → List ValueTree 
     pub event : Event
     pub stands : StandsFor declared turn first d hosted node lived core
     pub numbered : IsNumbered lived
+    pub others : ComesFromOthers d node lived
     pub came : came_in lived ≡ None ∷ map (λ (e : GivenEvent). e.event) before
     pub comes : told.event ≡ Some event
+    pub comes_so : ComesSo d node event
     pub spent : step.step_node declared turn (now lived + 1) event core ≡ Err peer
 
   -- one of these events has no end

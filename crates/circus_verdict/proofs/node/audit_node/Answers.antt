@@ -7,7 +7,7 @@ use Rattle.circus_verdict.specs.declared.living.Lived.{Lived}
 use Rattle.circus_verdict.specs.Seen.Judging.{HasComeThrough, HasStopped}
 use Rattle.circus_verdict.specs.Seen.Living.{MayCome, GoesOrEnds}
 use Rattle.circus_verdict.specs.Seen.Shape.{joins_so}
-use Rattle.circus_verdict.proofs.Coming.{spent}
+use Rattle.circus_verdict.proofs.Coming.{none_audited}
 use Rattle.circus_verdict.proofs.Shaping.{boot_is, they_come, begun_so, some_events, joins_hold, joins_only}
 use Rattle.circus_verdict.proofs.node.audit_node.Goals as goal
 
@@ -63,9 +63,10 @@ returns-in-Err-Spent g c =
     let M = g.M.Module in
     let events : c.args.given.now.events ≡ c.in-Some.boot.now ∷ c.in-Some.later.now = sym c.as_slice.ensures ∙ c.in-Some.ensures.cases.0 in
     let begun = boot_is c.in-Some.boot.now c.in-Some.later.now (sym c.is_begun.ensures ∙ c.if-not-is_begun.false) in
-    λ a. a.is.numbers (spent M.declared M.turn M.first c.args.deployment.now c.args.modules.now c.args.given.now c.in-Some.boot.now c.in-Some.later.now events begun c.in-Err-Spent.field-0-0
+    none_audited M.declared M.turn M.first (λ m. record { first_is_state = g.met.M.Module.first_is_state m; turns_are_lawful = g.met.M.Module.turns_are_lawful m })
+    c.args.deployment.now c.args.modules.now c.args.given.now c.in-Some.boot.now c.in-Some.later.now c.in-Err-Spent.field-0-0 events begun c.requires.deployment c.requires.modules c.requires.within
     (subst
     (λ (f : StepFault). GoesOrEnds {A = Lived g.row.M.Denot g.row.M-Paused.Denot}
     (λ lived. HasComeThrough M.declared M.turn M.first c.args.deployment.now c.args.modules.now c.args.given.now.node c.in-Some.boot.now c.in-Some.later.now lived.core lived.is_told lived.awaited)
     (HasStopped M.declared M.turn M.first c.args.deployment.now c.args.modules.now c.args.given.now.node c.in-Some.boot.now c.in-Some.later.now) (Err f))
-    c.in-Err-Spent.field-0-is c.in-Err-Spent.ensures.lived))
+    c.in-Err-Spent.field-0-is c.in-Err-Spent.ensures.lived)
