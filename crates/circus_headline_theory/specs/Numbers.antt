@@ -7,6 +7,6 @@ use Rattle.circus_node.specs.Trace.{Trace}
 use Rattle.circus_world_theory.specs.Histories.{beginning_of}
 use Rattle.circus_headline_theory.specs.Trace.{acts_of}
 
--- they are those below never_used
+-- calls to a node are numbered from 0 on, by the numbers below never_used
 abbrev pub HasNumbers : Deployment → ℕ → Trace → Type 0
 HasNumbers d node t = (to : ℕ) → made_to to (acts_of (beginning_of d node) t) ≤ never_used

@@ -88,8 +88,8 @@ pub fn calls_have_numbers<M: Module>()
         → IsRingRun d node t views → HasNumbers d node t }
 {}
 
-/// Where no number is left to such a node, at boot or in a step behind a trace, no node run has a
-/// number for each call that was told of the same up to there, whatever came to it then.
+/// Where no number is left to such a node, at boot or in a step behind a trace, every node run to which
+/// the same came up to that step has a call without a number, whatever came to it then.
 pub fn spent_nodes_have_no_run<M: Module>()
     ensures boot { (d : Deployment) (own : M) (node number peer : ℕ) (troupe : Troupe)
         (lived : Trace) (kept : MemberRecord)
