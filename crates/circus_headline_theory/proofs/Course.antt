@@ -22,7 +22,7 @@ use Rattle.circus_exchange.specs.Limits.{never_used}
 use Rattle.circus_wire.specs.Wire as wire
 use Rattle.circus_wire.specs.Wire.{heard_from}
 use Rattle.circus_wire.specs.WireActs as pairs
-use Rattle.circus_wire.specs.WireActs.{WireAct, WireActs, made_to}
+use Rattle.circus_wire.specs.WireActs.{WireActs, made_to}
 use Rattle.circus_wire.proofs.Standing.{stands_begun}
 use Rattle.circus_member_rules.specs.declared.place.Beginning.{Beginning}
 use Rattle.circus_member_rules.specs.declared.place.Place.{Place}
@@ -280,7 +280,7 @@ module _ {M : Type 0} (declared : M → Signature) (turn : M → List ValueTree 
         (handed_as d node (with_all acts (came_by event)) (wire_behind event n) (behind_stands b acts event n f.goes.stands f.of_peers can_come (is_read event octets)) calls_next.down
         made (subst (AllReach calls_next.down (IsOtherOf d node)) (sym made_is) calls_next.effects))
 
-    pub acts_by_trace : acts_in_step b (acts_of b t) (came_by event) made ≡ acts_in declared turn step event n
+    acts_by_trace : acts_in_step b (acts_of b t) (came_by event) made ≡ acts_in declared turn step event n
     acts_by_trace = ap (λ a. acts_in_step b a (came_by event) made) f.acts_are ∙ same_acts
 
     -- what has happened at the pairs, by the trace

@@ -49,7 +49,7 @@ use Rattle.circus_world_theory.proofs.Timely.Lives.{NodeLives, lives_in_time}
 use Rattle.circus_world_theory.proofs.Timely.Nodes.{at_home}
 use Rattle.circus_headline_theory.specs.Owed.Owes.{MakesWhatIsOwed}
 use Rattle.circus_headline_theory.proofs.Owed.Nodes.{owed_all}
-use Rattle.circus_headline_theory.specs.Datagrams.Lives.{IsOfOther, boot_acts, acts_behind}
+use Rattle.circus_headline_theory.specs.Datagrams.Lives.{IsOfOther, boot_acts}
 use Rattle.circus_headline_theory.specs.Datagrams.Lives as at_pairs
 use Rattle.circus_headline_theory.specs.Lived.{trace_behind}
 use Rattle.circus_headline_theory.specs.Lived as lived

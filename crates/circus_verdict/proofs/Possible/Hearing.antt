@@ -27,7 +27,7 @@ use Rattle.circus_node.specs.Trace as trace
 use Rattle.circus_node.specs.Trace.{Trace, StandsFor}
 use Rattle.circus_node.specs.declared.event.Event.{Event}
 use Rattle.circus_node.specs.declared.event.Event.TheVariants as comes
-use Rattle.circus_member_theory.specs.Past.{Past, booted, followed}
+use Rattle.circus_member_theory.specs.Past.{Past, booted}
 use Rattle.circus_member_theory.specs.Past as past
 use Rattle.circus_member_theory.proofs.Accepting.Can.{AreHeardOctets}
 use Rattle.circus_world_theory.specs.Happened.{with_one}
