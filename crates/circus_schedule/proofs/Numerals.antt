@@ -1,14 +1,13 @@
 -- Texts, and the numbers that they spell in decimal.
-use Rattle.std.proofs.Common.{◌≡◌, ◌≢◌, ◌<◌, ◌^◌, ℕ, List, Result, Ok, Err, length, get_or, inl, inr, sym, ap, ◌∙◌, arith}
+use Rattle.std.proofs.Common.{◌≡◌, ◌≢◌, ◌+◌, ◌*◌, ◌<◌, ◌^◌, ℕ, zero, suc, List, [], ◌∷◌, Option, Some, None, length, get_or, take, inl, inr, subst, sym, ap, ◌∙◌, arith}
+use Rattle.std.specs.Char.{digit_value}
 use Rattle.std.specs.Fmt.{decimal}
-use Rattle.std.specs.Option.{IfNone, IfSome}
-use Rattle.std.specs.Result.{result_ok}
-use Rattle.std.specs.Str.{IsUtf8}
-use Rattle.std.specs.Str.Parse.{AllDigits, ParsesUnsigned, digits_value}
+use Rattle.std.specs.Option.{IfNone, IfSome, SomeIff}
+use Rattle.std.specs.Str.Parse.{AllDigits, digits_value}
 use Rattle.std.proofs.lemmas.Bool.{cases_lt}
-use Rattle.std.proofs.lemmas.Fmt.{IsAscii-decimal, decimal-digits_value, decimal_digit, decimal_nonempty, digits_decimal, first_decimal, parse-decimal}
-use Rattle.std.proofs.lemmas.Str.{IsUtf8-from_ascii}
-use Rattle.std.proofs.lemmas.Str.Parse.{IsNumeralModel, not_in_digits, numerals_by_value, parse_plain, tells_digits}
+use Rattle.std.proofs.lemmas.Fmt.{decimal-digits_value, decimal_digit, decimal_nonempty, digits_decimal, digits_value-decimal, first_decimal}
+use Rattle.std.proofs.lemmas.Int.Digits.{digits_value_more}
+use Rattle.std.proofs.lemmas.Str.Parse.{IsNumeralModel, digits_value-take-le, not_in_digits, numerals_by_value, tells_digits}
 
 -- decimal digits and their number, in std's words
 pub own : IsNumeralModel (AllDigits 10) (digits_value 10)
@@ -19,9 +18,9 @@ abbrev pub BeginsAsDecimal : List ℕ → Type 0
 BeginsAsDecimal text = (0 < length text) × (get_or text 0 0 ≢ 43) × (get_or text 0 0 ≡ 48 → length text ≡ 1)
 
 one_digit : (n : ℕ) → n < 2 ^ 64 → get_or (decimal n) 0 0 ≡ 48 → length (decimal n) ≡ 1
-one_digit n small zero =
+one_digit n small begins =
     elim (cases_lt 0 n) [
-      | inl positive ↦ absurd (omega (arith, first_decimal n positive small))
+      | inl positive ↦ absurd (omega (arith, begins, first_decimal n positive small))
       | inr none ↦ ap length (decimal_digit n (omega arith))
     ]
 
@@ -32,15 +31,28 @@ decimal_begins n small = (
   one_digit n small,
 )
 
-pub IsUtf8-decimal : (n : ℕ) → n < 2 ^ 64 → IsUtf8 (decimal n)
-IsUtf8-decimal n small = IsUtf8-from_ascii (decimal n) (IsAscii-decimal n small)
+-- each byte of digits is one
+digit_below : (text : List ℕ) (place : ℕ) → AllDigits 10 text → place < length text → digit_value (get_or text place 0) < 10
+digit_below [] place all inside = absurd (omega arith)
+digit_below (byte ∷ text) zero all inside = all.0
+digit_below (byte ∷ text) (suc place) all inside = digit_below text place all.1 (omega arith)
 
--- what is read is what the text spells, and where nothing is read it spells no number
-pub parsed-decimal : {E : Type 0} (text digits : List ℕ) (r : Result ℕ E) → digits ≡ text → BeginsAsDecimal text → ParsesUnsigned 64 10 digits r → IfSome (result_ok r) (λ n. text ≡ decimal n) × IfNone (result_ok r) ((n : ℕ) → n < 2 ^ 64 → text ≢ decimal n)
-parsed-decimal {E} text digits (Ok n) same begins parsed =
-    let r : Result ℕ E = Ok n in
-    let read = parse_plain own 64 text r (rw same at parsed) begins.1 in
-    (sym (decimal-digits_value own text read.0.0 read.0.1 begins.2 read.0.2) ∙ ap decimal (sym read.1), tt)
-parsed-decimal {E} text digits (Err fault) same begins parsed =
-    let r : Result ℕ E = Err fault in
-    (tt, λ n small spelled. let read = parse-decimal 64 n digits r small small (same ∙ spelled) parsed in cc)
+-- where one byte more is no digit, or makes the number too great, the text is no number
+pub ends_no_number : (text : List ℕ) (place number : ℕ) → place < length text → number ≡ digits_value 10 (take place text)
+    → ((digit_value (get_or text place 0) < 10) × (number * 10 + digit_value (get_or text place 0) < 2 ^ 64) → ⊥) → AllDigits 10 text × (digits_value 10 text < 2 ^ 64) → ⊥
+ends_no_number text place number inside is none whole =
+    none (
+      digit_below text place whole.0 inside,
+      omega (arith, whole.1, is, digits_value_more 10 text place inside, digits_value-take-le 10 text (place + 1) (omega arith)),
+    )
+
+-- what is read of digits is what the text spells, and where nothing is read it spells no number
+pub read_is_spelled : (text : List ℕ) (r : Option ℕ) → BeginsAsDecimal text → SomeIff r (AllDigits 10 text × (digits_value 10 text < 2 ^ 64)) (digits_value 10 text)
+    → IfSome r (λ n. text ≡ decimal n) × IfNone r ((n : ℕ) → n < 2 ^ 64 → text ≢ decimal n)
+read_is_spelled text (Some n) begins read =
+    (sym (decimal-digits_value own text read.0.0 begins.0 begins.2 read.0.1) ∙ ap decimal (sym read.1), tt)
+read_is_spelled text None begins read = (
+  tt,
+  λ n small spelled.
+      read (subst (AllDigits 10) (sym spelled) (digits_decimal own n small), omega (arith, small, ap (digits_value 10) spelled, digits_value-decimal own n small)),
+)

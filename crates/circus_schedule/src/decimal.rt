@@ -1,6 +1,9 @@
 // Numbers as words and lines spell them.
+ghost use Rattle.std.specs.Char.{digit_value};
 ghost use Rattle.std.specs.Fmt.{decimal};
-ghost use Rattle.std.specs.Prelude.{◌≡◌, ◌≢◌, ◌<◌, ◌≤◌, ◌^◌, ◌↔◌, ℕ, IfNone, IfSome, IsTrue, length, slice_index};
+ghost use Rattle.std.specs.Option.{SomeIff};
+ghost use Rattle.std.specs.Prelude.{◌≡◌, ◌≢◌, ◌<◌, ◌≤◌, ◌+◌, ◌*◌, ◌^◌, ◌↔◌, ℕ, IfNone, IfSome, IsTrue, length, slice_index};
+ghost use Rattle.std.specs.Str.Parse.{AllDigits, digits_value};
 
 const PLUS: u8 = b'+';
 
@@ -24,10 +27,31 @@ fn read_decimal(text: &[u8]) -> Option<u64>
     if !begins_as_decimal(text) {
         return None;
     }
-    let Ok(digits) = str::from_utf8(text) else {
+    number_of_digits(text)
+}
+
+// The number of digits, which may begin with zeros.
+fn number_of_digits(text: &[u8]) -> Option<u64>
+    ensures { SomeIff result (AllDigits 10 text.now × (digits_value 10 text.now < 2 ^ 64))
+        (digits_value 10 text.now) }
+{
+    let mut number = 0;
+    for byte in text {
+        number = with_digit(number, *byte)?;
+    }
+    Some(number)
+}
+
+// The number with one digit more.
+fn with_digit(number: u64, byte: u8) -> Option<u64>
+    ensures { SomeIff result
+        ((digit_value byte < 10) × (number * 10 + digit_value byte < 2 ^ 64))
+        (number * 10 + digit_value byte) }
+{
+    if !byte.is_ascii_digit() {
         return None;
-    };
-    digits.parse().ok()
+    }
+    number.checked_mul(10)?.checked_add(u64::from(byte - ZERO))
 }
 
 // The first byte is no sign, and a zero only where it is the only byte.
