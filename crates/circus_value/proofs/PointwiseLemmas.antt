@@ -52,6 +52,15 @@ from_not {a = true} {b = false} e = refl
 from_not {a = false} {b = true} e = refl
 from_not {a = false} {b = false} e = sym e
 
+-- of two answers the second, where it is no, and the first, where the second is yes
+pub and_no : (a b : Bool) → b ≡ false → b ≡ (a && b)
+and_no true b e = refl
+and_no false b e = e
+
+pub and_yes : (a b : Bool) → b ≡ true → a ≡ (a && b)
+and_yes true b e = sym e
+and_yes false b e = refl
+
 -- the parts at a place, read as slices
 pub parts_read : (ps qs : List (List ℕ)) (i : ℕ) (p q : List ℕ) (p' q' : List ℕ) → i < length ps → i < length qs → p ≡ get_or ps i p → q ≡ get_or qs i q
     → p' ≡ p → q' ≡ q → option_eq (pointwise nat_eq) (slice_get ps i) (slice_get qs i) ≡ pointwise nat_eq p' q'

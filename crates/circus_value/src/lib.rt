@@ -3,7 +3,8 @@
 //! `list_of` has the one list type, `value` and `shape` the two trees, `outcome` what a procedure ends with, `caller` who
 //! made a call. `among` looks for a number in a list, `duplicate` has the copies of plain data and `equality` what is
 //! equal. `fitting` tests a value against a shape, `size` counts a value's bytes in external form, `parts` has bytes that
-//! are shared in parts, and `shown` and `thread_text` the texts of values, outcomes, clocks and paths.
+//! are shared in parts, `tail` those behind the first part, and `shown` and `thread_text` the texts of values, outcomes,
+//! clocks and paths.
 #![tactic(auto)]
 
 mod among;
@@ -17,6 +18,7 @@ mod parts;
 mod shape;
 mod shown;
 mod size;
+mod tail;
 mod thread_text;
 mod value;
 

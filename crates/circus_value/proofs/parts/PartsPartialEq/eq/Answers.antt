@@ -1,23 +1,21 @@
-use Rattle.std.proofs.Common.{◌≡◌, length, nat_eq, sym, ap, ◌∙◌, arith}
-use Rattle.std.specs.Cmp.Lexicographic.{pointwise, bytes_decides}
-use Rattle.circus_value.specs.Seen.PartEnds.{ends_from}
-use Rattle.circus_value.proofs.PartLemmas.{length-ends_from}
-use Rattle.circus_value.proofs.PointwiseLemmas.{pointwise-concat}
+use Rattle.std.proofs.Common.{◌≡◌, length, nat_eq, sym, ◌∙◌, arith}
+use Rattle.std.specs.Cmp.Lexicographic.{pointwise}
+use Rattle.circus_value.proofs.PointwiseLemmas.{pointwise-append, and_no, and_yes}
 use Rattle.circus_value.proofs.parts.PartsPartialEq.eq.Goals as goal
 
-pub same_parts-requires : goal.same_parts-requires
-same_parts-requires c =
-    let ps = c.self.inside.parts.items in
-    let qs = c.other.inside.parts.items in
-    let ends = (bytes_decides c.self.inside.ends.items c.other.inside.ends.items).0 (sym c.eq.ensures ∙ c.if-eq.true) in
-    let same : ends_from 0 ps ≡ ends_from 0 qs = sym c.self.invariant.0 ∙ ends ∙ c.other.invariant.0 in
-    omega (arith, ap length same, length-ends_from 0 ps, length-ends_from 0 qs, c.deref.ensures.len, c.deref-then-eq.ensures.len, ap length c.deref.ensures.value, ap length c.deref-then-eq.ensures.value)
+pub returns-then-same : goal.returns-then-same
+returns-then-same c =
+    let a = c.self.inside in
+    let b = c.other.inside in
+    let long : length a.first ≡ length b.first = omega (arith, c.len.ensures.value, c.len-2.ensures.value) in
+    let first : c.eq.result ≡ pointwise nat_eq a.first b.first = c.eq.ensures ∙ (λ j. pointwise nat_eq (c.as_slice.ensures j) (c.as_slice-then-same.ensures j)) in
+    let both = and_yes (pointwise nat_eq a.first b.first) (pointwise nat_eq a.tail b.tail) (sym c.in-Some.ensures ∙ c.if-same.true) in
+    first ∙ both ∙ sym (pointwise-append nat_eq a.first a.tail b.first b.tail long) ∙ (λ j. pointwise nat_eq (c.self.view_is j) (c.other.view_is j))
 
-pub returns-then-eq : goal.returns-then-eq
-returns-then-eq c =
-    let ps = c.self.inside.parts.items in
-    let qs = c.other.inside.parts.items in
-    let ends = (bytes_decides c.self.inside.ends.items c.other.inside.ends.items).0 (sym c.eq.ensures ∙ c.if-eq.true) in
-    let same : ends_from 0 ps ≡ ends_from 0 qs = sym c.self.invariant.0 ∙ ends ∙ c.other.invariant.0 in
-    c.same_parts.ensures ∙ (λ j. pointwise (pointwise nat_eq) (c.deref.ensures.value j) (c.deref-then-eq.ensures.value j))
-    ∙ sym (pointwise-concat 0 ps qs same) ∙ (λ j. pointwise nat_eq (c.self.view_is j) (c.other.view_is j))
+pub returns-else-same : goal.returns-else-same
+returns-else-same c =
+    let a = c.self.inside in
+    let b = c.other.inside in
+    let long : length a.first ≡ length b.first = omega (arith, c.len.ensures.value, c.len-2.ensures.value) in
+    let both = and_no (pointwise nat_eq a.first b.first) (pointwise nat_eq a.tail b.tail) (sym c.in-Some.ensures ∙ c.if-same.false) in
+    c.in-Some.ensures ∙ both ∙ sym (pointwise-append nat_eq a.first a.tail b.first b.tail long) ∙ (λ j. pointwise nat_eq (c.self.view_is j) (c.other.view_is j))

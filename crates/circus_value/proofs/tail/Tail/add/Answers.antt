@@ -5,7 +5,7 @@ use Rattle.circus_value.specs.Seen.PartEnds.{ends_from}
 use Rattle.circus_value.specs.Parts.{AreOctets}
 use Rattle.circus_value.proofs.Octets.{both_octets}
 use Rattle.circus_value.proofs.PartLemmas.{ends_from-push, concat-push}
-use Rattle.circus_value.proofs.parts.Parts.add.Goals as goal
+use Rattle.circus_value.proofs.tail.Tail.add.Goals as goal
 
 pub invariant_of-self-2 : goal.invariant_of-self-2
 invariant_of-self-2 c =

@@ -1,6 +1,6 @@
 use Rattle.std.proofs.Common.{arith}
 use Rattle.circus_value.proofs.PartLemmas.{past_all, found}
-use Rattle.circus_value.proofs.parts.find.Goals as goal
+use Rattle.circus_value.proofs.tail.find.Goals as goal
 
 pub returns-in_err-part-clause-none : goal.returns-in_err-part-clause-none
 returns-in_err-part-clause-none c =

@@ -1,5 +1,5 @@
 use Rattle.std.proofs.Common.{◌-◌, ◌<◌, ◌≤◌, length, get_or}
-use Rattle.circus_value.proofs.parts.search.Given as goal
+use Rattle.circus_value.proofs.tail.search.Given as goal
 
 -- all before `low` were seen to be at most `at`, and what stands at `high` to be above it
 abbrev pub invariant-loop-low : goal.invariant-loop-low

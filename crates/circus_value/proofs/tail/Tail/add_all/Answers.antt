@@ -1,7 +1,7 @@
 use Rattle.std.proofs.Common.{◌∙◌, ◌+◌, ◌++◌, length, take, sym, ap, arith, append_assoc, length-append}
 use Rattle.std.specs.List.{concat}
 use Rattle.circus_value.proofs.PartLemmas.{concat-more, concat-take-le}
-use Rattle.circus_value.proofs.parts.Parts.add_all.Goals as goal
+use Rattle.circus_value.proofs.tail.Tail.add_all.Goals as goal
 
 pub add-requires : goal.add-requires
 add-requires c =

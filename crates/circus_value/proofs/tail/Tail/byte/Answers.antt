@@ -1,6 +1,6 @@
 use Rattle.std.proofs.Common.{◌∙◌, length, slice_get, get_or, Some, ap, arith}
 use Rattle.circus_value.proofs.PartLemmas.{byte_in, byte_at}
-use Rattle.circus_value.proofs.parts.Parts.byte.Goals as goal
+use Rattle.circus_value.proofs.tail.Tail.byte.Goals as goal
 
 pub bounds-as_slice-offset : goal.bounds-as_slice-offset
 bounds-as_slice-offset c =

@@ -1,7 +1,7 @@
 use Rattle.std.proofs.Common.{◌+◌, ◌<◌, ◌&&◌, drop, length, nat_eq, sym, ap, ◌∙◌, arith}
 use Rattle.std.specs.Cmp.Lexicographic.{pointwise}
 use Rattle.circus_value.proofs.PointwiseLemmas.{pointwise_from, pointwise_past, from_not, parts_read}
-use Rattle.circus_value.proofs.parts.same_parts.Goals as goal
+use Rattle.circus_value.proofs.tail.same_parts.Goals as goal
 
 pub returns-then-ne : goal.returns-then-ne
 returns-then-ne c =

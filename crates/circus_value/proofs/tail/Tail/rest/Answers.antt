@@ -1,7 +1,7 @@
 use Rattle.std.proofs.Common.{◌∙◌, ◌+◌, ◌-◌, ◌++◌, length, take, drop, slice_range, sym, ap, arith}
 use Rattle.std.specs.List.{concat}
 use Rattle.circus_value.proofs.PartLemmas.{byte_in, rest_split, rest_few}
-use Rattle.circus_value.proofs.parts.Parts.rest.Goals as goal
+use Rattle.circus_value.proofs.tail.Tail.rest.Goals as goal
 
 pub slice-requires-clause-start_le_end : goal.slice-requires-clause-start_le_end
 slice-requires-clause-start_le_end c =

@@ -1,6 +1,6 @@
 use Rattle.std.proofs.Common.{◌≡◌, drop, nat_eq}
 use Rattle.std.specs.Cmp.Lexicographic.{pointwise}
-use Rattle.circus_value.proofs.parts.same_parts.Given as goal
+use Rattle.circus_value.proofs.tail.same_parts.Given as goal
 
 -- the parts that are left decide
 abbrev pub invariant-loop-place : goal.invariant-loop-place
