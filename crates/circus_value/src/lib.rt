@@ -34,7 +34,7 @@ pub use shape::{Arm, Arms, Element, Field, Fields, Label, Shape};
 pub use shown::show;
 pub use size::{external_size, values_size};
 pub use thread_text::{ClockText, PathText, name_text};
-pub use value::{Chosen, Value, Values};
+pub use value::{Chosen, Value, Values, ValuesBuilder};
 
 /// Want of memory.
 pub type NoMemory = std::alloc::AllocError;

@@ -1,5 +1,5 @@
 // Values, and lists of them.
-ghost use Rattle.std.specs.Prelude.{◌≡◌, ◌-◌, ◌^◌, min, List, [], ◌∷◌, ◌++◌, ◌<◌, length, map, option_map, option_copied, Some, slice_get, slice_set, take, OnOk, OnErr, IfOk, IsTrue, ◌↔◌};
+ghost use Rattle.std.specs.Prelude.{◌≡◌, ◌-◌, ◌^◌, min, List, [], ◌∷◌, ◌++◌, ◌<◌, length, map, option_map, option_copied, Some, slice_get, slice_set, take, OnOk, OnErr, IfOk, IsOk, IsTrue, ◌↔◌};
 ghost use Rattle.circus_value.specs.ValueOf.{tree_of};
 ghost use Rattle.circus_value.specs.ExternalSize.{size_of_values};
 ghost use Rattle.circus_value.specs.Seen.SharedItems.{items_in, IsRecounted};
@@ -193,6 +193,65 @@ impl Values {
         let old = exchange(&mut self.items, place, item)?;
         self.size = size_after(&self.items, self.size, external_size(&old), grows);
         Ok(old)
+    }
+}
+
+/// Values that are put in order before they are shared. Clauses see the plain list of their trees.
+#[derive(Debug, Drop)]
+pub struct ValuesBuilder {
+    alloc: Global,
+    items: Vec<Value>,
+}
+
+impl Model for ValuesBuilder {
+    ghost use Rattle.std.specs.Prelude.{List, map};
+    ghost use Rattle.std.specs.Coded.{coded_list};
+    ghost use Rattle.circus_value.specs.ValueTree.{ValueTree};
+    ghost use Rattle.circus_value.specs.Seen.ValueCode.{coded_value};
+    ghost use Rattle.circus_value.specs.ValueOf.{tree_of};
+
+    ghost Value = { List ValueTree };
+
+    ghost coded = { coded_list coded_value };
+
+    ghost view = { λ a. map tree_of a.items.items };
+}
+
+impl ValuesBuilder {
+    /// No values yet, with room for so many, or `NoMemory`.
+    pub fn with_capacity(alloc: Global, capacity: usize) -> Result<Self, NoMemory>
+        ensures { IfOk result (λ values. values ≡ []) }
+    {
+        Ok(ValuesBuilder {
+            alloc,
+            items: Vec::with_capacity(alloc, capacity)?,
+        })
+    }
+
+    /// Adds a value at the end. After `NoMemory` nothing has changed.
+    pub fn push(&mut self, item: Value) -> Result<(), NoMemory>
+        ensures ok { OnOk result (self.new ≡ self.old ++ tree_of item ∷ []) }
+        ensures err { OnErr result (self.new ≡ self.old) }
+    {
+        self.items.push(item)?;
+        Ok(())
+    }
+
+    /// These values, which are not copied, or `NoMemory`. Where there are none it takes no memory.
+    pub fn finish(self) -> Result<Values, NoMemory>
+        ensures value { IfOk result (λ values. values ≡ self) }
+        ensures none { self ≡ [] → IsOk result }
+    {
+        let ValuesBuilder { alloc, items } = self;
+        if items.is_empty() {
+            return Ok(Values::new(alloc));
+        }
+        let size = size_of_all(&items);
+        Ok(Values {
+            alloc,
+            items: Some(Rc::new(alloc, items)?),
+            size,
+        })
     }
 }
 
