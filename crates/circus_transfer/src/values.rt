@@ -5,7 +5,7 @@ ghost use Rattle.circus_external.specs.Reading.{fields_reading};
 ghost use Rattle.circus_transfer.specs.Snapshot.{fields_of};
 
 use circus_external::{ByteSource, ExternalFault, read_from};
-use circus_value::{Shapes, Values};
+use circus_value::{Shapes, Values, ValuesBuilder};
 use std::alloc::Global;
 
 /// One value for each shape, whose bytes stand from a place on one after another, and the place behind them
@@ -22,12 +22,12 @@ pub fn read_values<S: ByteSource>(
         ts) (S.octets source.now) result
         (fields_reading (fields_of shapes.now) from (drop from (S.octets source.now))) }
 {
-    let mut values = Values::new(alloc);
+    let mut values = ValuesBuilder::with_capacity(alloc, shapes.len())?;
     let mut at = from;
     for shape in shapes.as_slice() {
         let (value, next) = read_from(alloc, source, at, shape)?;
         values.push(value)?;
         at = next;
     }
-    Ok((values, at))
+    Ok((values.finish()?, at))
 }
