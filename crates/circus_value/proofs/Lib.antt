@@ -3,6 +3,7 @@ pub mod FitLemmas
 pub mod Octets
 pub mod ShapeBack
 pub mod ShapeItems
+mod NameItems
 mod ItemFalls
 mod SizeLemmas
 mod ShownMore

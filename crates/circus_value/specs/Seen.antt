@@ -2,6 +2,7 @@
 pub mod ValueCode
 pub mod ValueWeight
 pub mod SharedItems
+pub mod NamePlaces
 pub mod ValueFalls
 pub mod ShapeCode
 pub mod ShapeWeight

@@ -1,10 +1,10 @@
 //! The values of Circus, the shapes that they fit, and the lists that all crates share.
 //!
 //! `list_of` has the one list type, `value` and `shape` the two trees, `outcome` what a procedure ends with, `caller` who
-//! made a call. `among` looks for a number in a list, `duplicate` has the copies of plain data and `equality` what is
-//! equal. `fitting` tests a value against a shape, `size` counts a value's bytes in external form, `parts` has bytes that
-//! are shared in parts, `tail` those behind the first part, and `shown` and `thread_text` the texts of values, outcomes,
-//! clocks and paths.
+//! made a call. `among` looks for a number in a list and `name_index` for a name, `duplicate` has the copies of plain data
+//! and `equality` what is equal. `fitting` tests a value against a shape, `size` counts a value's bytes in external form,
+//! `parts` has bytes that are shared in parts, `tail` those behind the first part, and `shown` and `thread_text` the texts
+//! of values, outcomes, clocks and paths.
 #![tactic(auto)]
 
 mod among;
@@ -13,6 +13,7 @@ mod duplicate;
 mod equality;
 mod fitting;
 mod list_of;
+mod name_index;
 mod outcome;
 mod parts;
 mod shape;
@@ -30,7 +31,7 @@ pub use fitting::fits;
 pub use list_of::ListOf;
 pub use outcome::Outcome;
 pub use parts::Parts;
-pub use shape::{Arm, Arms, Element, Field, Fields, Label, Shape};
+pub use shape::{Arm, Arms, Element, Field, Fields, Label, Labels, Shape};
 pub use shown::show;
 pub use size::{external_size, values_size};
 pub use thread_text::{ClockText, PathText, name_text};
@@ -59,9 +60,6 @@ pub type Path = ListOf<u16>;
 
 /// For each module, how many calls a thread has made to it.
 pub type Clock = ListOf<u32>;
-
-/// The labels of an enumeration.
-pub type Labels = ListOf<Label>;
 
 /// Shapes in order.
 pub type Shapes = ListOf<Shape>;

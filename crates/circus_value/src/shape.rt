@@ -1,9 +1,11 @@
 // Shapes of values, and the lists that they are made of.
-ghost use Rattle.std.specs.Prelude.{◌≡◌, List, [], ◌∷◌, ◌++◌, length, map, option_map, option_copied, slice_get, OnOk, OnErr, IfOk, IsTrue, ◌↔◌};
+ghost use Rattle.std.specs.Prelude.{◌≡◌, List, [], ◌∷◌, ◌++◌, length, map, option_map, option_copied, slice_get, bytes_eq, OnOk, OnErr, IfOk, IsTrue, ◌↔◌};
+ghost use Rattle.std.specs.List.{position_from};
 ghost use Rattle.circus_value.specs.ShapeOf.{tree_of, field_of, arm_of};
 ghost use Rattle.circus_value.specs.ArmShape.{arm_shape};
 
-use crate::{Duplicate, ListOf, Name, NoMemory};
+use crate::name_index::{HasName, NameIndex};
+use crate::{Duplicate, Name, NoMemory};
 use std::alloc::Global;
 use std::marker::Model;
 
@@ -12,6 +14,20 @@ use std::marker::Model;
 pub struct Label {
     pub name: Name,
     pub number: u16,
+}
+
+/// The labels of an enumeration, in order. Clauses see the plain list.
+#[derive(Debug)]
+pub struct Labels {
+    items: Vec<Label>,
+    index: NameIndex,
+}
+
+// Written out, so that dropping one is one step of a proof (docs/PROOFS.md, "Cost").
+impl Drop for Labels {
+    fn drop(self) {
+        let Labels { items: _, index: _ } = self;
+    }
 }
 
 /// What values may stand somewhere.
@@ -24,7 +40,7 @@ pub enum Shape {
     Integer,
     LongInteger,
     Text,
-    Enumeration(ListOf<Label>),
+    Enumeration(Labels),
     /// So many items of one shape.
     Array(u16, Element),
     /// At most so many items of one shape.
@@ -55,13 +71,14 @@ pub struct Arm {
 #[derive(Debug)]
 pub struct Fields {
     items: Vec<Field>,
+    index: NameIndex,
 }
 
 // Written out, so that dropping one is one step of a proof (docs/PROOFS.md, "Cost").
 impl Drop for Fields {
     #[cycle(shape_drop)]
     fn drop(self) {
-        let Fields { items: _ } = self;
+        let Fields { items: _, index: _ } = self;
     }
 }
 
@@ -70,13 +87,14 @@ impl Drop for Fields {
 #[derive(Debug)]
 pub struct Arms {
     items: Vec<Arm>,
+    index: NameIndex,
 }
 
 // Written out, so that dropping one is one step of a proof (docs/PROOFS.md, "Cost").
 impl Drop for Arms {
     #[cycle(shape_drop)]
     fn drop(self) {
-        let Arms { items: _ } = self;
+        let Arms { items: _, index: _ } = self;
     }
 }
 
@@ -95,6 +113,18 @@ impl Drop for Element {
     }
 }
 
+impl Model for Labels {
+    ghost use Rattle.std.specs.Prelude.{List};
+    ghost use Rattle.circus_value.specs.declared.shape.Label.{Label};
+    ghost use Rattle.circus_value.specs.Seen.NamePlaces.{IsIndexOf};
+
+    ghost Value = { List Label };
+
+    ghost view = { λ a. a.items.items };
+
+    ghost invariant = { λ a. IsIndexOf (λ (l : Label). l.name) a.items.items a.index };
+}
+
 impl Model for Fields {
     ghost use Rattle.std.specs.Prelude.{List, map};
     ghost use Rattle.std.specs.Coded.{coded_list};
@@ -110,6 +140,11 @@ impl Model for Fields {
     ghost use Rattle.circus_value.specs.ShapeOf.{field_of};
 
     ghost view = { λ a. map field_of a.items.items };
+
+    ghost use Rattle.circus_value.specs.declared.shape.Field.{Field};
+    ghost use Rattle.circus_value.specs.Seen.NamePlaces.{IsIndexOf};
+
+    ghost invariant = { λ a. IsIndexOf (λ (f : Field). f.name) a.items.items a.index };
 
     ghost size = { λ fs. field_weights (field_trees fs) };
 
@@ -133,6 +168,11 @@ impl Model for Arms {
     ghost use Rattle.circus_value.specs.ShapeOf.{arm_of};
 
     ghost view = { λ a. map arm_of a.items.items };
+
+    ghost use Rattle.circus_value.specs.declared.shape.Arm.{Arm};
+    ghost use Rattle.circus_value.specs.Seen.NamePlaces.{IsIndexOf};
+
+    ghost invariant = { λ a. IsIndexOf (λ (a : Arm). a.name) a.items.items a.index };
 
     ghost size = { λ arms. arm_weights (arm_trees arms) };
 
@@ -162,6 +202,72 @@ impl Model for Element {
     ghost size_decreases = { λ a h. Prim.omega (arith, deep_le-weight a.shape.value) };
 }
 
+impl Labels {
+    /// No labels. It takes no memory, and grows with this allocator.
+    pub fn new(alloc: Global) -> Self
+        ensures { result ≡ [] }
+    {
+        Labels {
+            items: Vec::new(alloc),
+            index: NameIndex::new(),
+        }
+    }
+
+    /// How many there are.
+    pub fn len(&self) -> usize
+        ensures { result ≡ length self.now }
+    {
+        self.items.len()
+    }
+
+    /// Whether there are none.
+    pub fn is_empty(&self) -> bool
+        ensures { IsTrue result ↔ (self.now ≡ []) }
+    {
+        self.items.is_empty()
+    }
+
+    /// The label at a place, counted from 0. `None` exactly where the place is not below the length.
+    pub fn get(&self, place: usize) -> Option<&Label>
+        ensures { option_copied result ≡ slice_get self.now place }
+    {
+        self.items.get(place)
+    }
+
+    /// All of them, in order.
+    pub fn as_slice(&self) -> &[Label]
+        ensures { result.now ≡ self.now }
+    {
+        self.items.as_slice()
+    }
+
+    /// The place of the first label of this name, counted from 0. `None` exactly where no label has it.
+    pub fn find(&self, name: &[u8]) -> Option<usize>
+        ensures { result ≡ position_from (λ l. bytes_eq l.name name.now) 0 self.now }
+    {
+        self.index.find(self.items.as_slice(), name)
+    }
+
+    /// Adds a label at the end. After `NoMemory` the list is unchanged.
+    pub fn push(&mut self, item: Label) -> Result<(), NoMemory>
+        ensures ok { OnOk result (self.new ≡ self.old ++ item ∷ []) }
+        ensures err { OnErr result (self.new ≡ self.old) }
+    {
+        self.index = NameIndex::new();
+        self.items.push(item)?;
+        Ok(())
+    }
+
+    /// Makes a table of the names where there are many, for a list that doesn't grow any more. After `NoMemory` the list
+    /// is unchanged.
+    pub fn index_names(&mut self) -> Result<(), NoMemory>
+        ensures { self.new ≡ self.old }
+    {
+        self.index = NameIndex::of(*self.items.allocator(), self.items.as_slice())?;
+        Ok(())
+    }
+}
+
 impl Fields {
     /// No fields. It takes no memory, and grows with this allocator.
     pub fn new(alloc: Global) -> Self
@@ -169,6 +275,7 @@ impl Fields {
     {
         Fields {
             items: Vec::new(alloc),
+            index: NameIndex::new(),
         }
     }
 
@@ -200,12 +307,29 @@ impl Fields {
         self.items.as_slice()
     }
 
+    /// The place of the first field of this name, counted from 0. `None` exactly where no field has it.
+    pub fn find(&self, name: &[u8]) -> Option<usize>
+        ensures { result ≡ position_from (λ f. bytes_eq f.name name.now) 0 self.now }
+    {
+        self.index.find(self.items.as_slice(), name)
+    }
+
     /// Adds a field at the end. After `NoMemory` the list is unchanged.
     pub fn push(&mut self, item: Field) -> Result<(), NoMemory>
         ensures ok { OnOk result (self.new ≡ self.old ++ field_of item ∷ []) }
         ensures err { OnErr result (self.new ≡ self.old) }
     {
+        self.index = NameIndex::new();
         self.items.push(item)?;
+        Ok(())
+    }
+
+    /// Makes a table of the names where there are many, for a list that doesn't grow any more. After `NoMemory` the list
+    /// is unchanged.
+    pub fn index_names(&mut self) -> Result<(), NoMemory>
+        ensures { self.new ≡ self.old }
+    {
+        self.index = NameIndex::of(*self.items.allocator(), self.items.as_slice())?;
         Ok(())
     }
 }
@@ -217,6 +341,7 @@ impl Arms {
     {
         Arms {
             items: Vec::new(alloc),
+            index: NameIndex::new(),
         }
     }
 
@@ -260,12 +385,29 @@ impl Arms {
         None
     }
 
+    /// The place of the first arm of this name, counted from 0. `None` exactly where no arm has it.
+    pub fn find(&self, name: &[u8]) -> Option<usize>
+        ensures { result ≡ position_from (λ a. bytes_eq a.name name.now) 0 self.now }
+    {
+        self.index.find(self.items.as_slice(), name)
+    }
+
     /// Adds an arm at the end. After `NoMemory` the list is unchanged.
     pub fn push(&mut self, item: Arm) -> Result<(), NoMemory>
         ensures ok { OnOk result (self.new ≡ self.old ++ arm_of item ∷ []) }
         ensures err { OnErr result (self.new ≡ self.old) }
     {
+        self.index = NameIndex::new();
         self.items.push(item)?;
+        Ok(())
+    }
+
+    /// Makes a table of the names where there are many, for a list that doesn't grow any more. After `NoMemory` the list
+    /// is unchanged.
+    pub fn index_names(&mut self) -> Result<(), NoMemory>
+        ensures { self.new ≡ self.old }
+    {
+        self.index = NameIndex::of(*self.items.allocator(), self.items.as_slice())?;
         Ok(())
     }
 }
@@ -294,6 +436,43 @@ impl Duplicate for Label {
             name: self.name.copy()?,
             number: self.number,
         })
+    }
+}
+
+impl Duplicate for Labels {
+    fn copy(&self) -> Result<Self, NoMemory> {
+        let mut items = Vec::with_capacity(*self.items.allocator(), self.items.len())?;
+        for item in &self.items {
+            items.push(item.copy()?)?;
+        }
+        Ok(Labels {
+            items,
+            index: self.index.copy()?,
+        })
+    }
+}
+
+impl HasName for Label {
+    ghost name_of = { λ l. l.name };
+
+    fn name(&self) -> &[u8] {
+        self.name.as_slice()
+    }
+}
+
+impl HasName for Field {
+    ghost name_of = { λ f. f.name };
+
+    fn name(&self) -> &[u8] {
+        self.name.as_slice()
+    }
+}
+
+impl HasName for Arm {
+    ghost name_of = { λ a. a.name };
+
+    fn name(&self) -> &[u8] {
+        self.name.as_slice()
     }
 }
 
@@ -344,7 +523,10 @@ impl Duplicate for Fields {
         for item in &self.items {
             items.push(item.copy()?)?;
         }
-        Ok(Fields { items })
+        Ok(Fields {
+            items,
+            index: self.index.copy()?,
+        })
     }
 }
 
@@ -355,7 +537,10 @@ impl Duplicate for Arms {
         for item in &self.items {
             items.push(item.copy()?)?;
         }
-        Ok(Arms { items })
+        Ok(Arms {
+            items,
+            index: self.index.copy()?,
+        })
     }
 }
 
