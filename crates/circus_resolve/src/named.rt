@@ -27,27 +27,21 @@ pub struct ArmFound<'s> {
 pub fn label_named(labels: &Labels, name: &[u8]) -> Option<u16>
     ensures { result ≡ named.label_named labels.now name.now }
 {
-    for label in labels.as_slice() {
-        if label.name.as_slice() == name {
-            return Some(label.number);
-        }
-    }
-    None
+    let place = labels.find(name)?;
+    let label = labels.get(place)?;
+    Some(label.number)
 }
 
 /// The first field of this name.
 pub fn field_named<'s>(fields: &'s Fields, name: &[u8]) -> Option<FieldFound<'s>>
     ensures { option_map field_as result ≡ named.field_named (field_trees fields.now) name.now }
 {
-    for (place, field) in fields.as_slice().iter().enumerate() {
-        if field.name.as_slice() == name {
-            return Some(FieldFound {
-                place,
-                shape: &field.shape,
-            });
-        }
-    }
-    None
+    let place = fields.find(name)?;
+    let field = fields.get(place)?;
+    Some(FieldFound {
+        place,
+        shape: &field.shape,
+    })
 }
 
 /// How many fields there are.
@@ -61,15 +55,12 @@ pub fn field_count(fields: &Fields) -> usize
 pub fn arm_named<'s>(arms: &'s Arms, name: &[u8]) -> Option<ArmFound<'s>>
     ensures { option_map arm_as result ≡ named.arm_named (arm_trees arms.now) name.now }
 {
-    for arm in arms.as_slice() {
-        if arm.name.as_slice() == name {
-            return Some(ArmFound {
-                number: arm.number,
-                shape: &arm.shape,
-            });
-        }
-    }
-    None
+    let place = arms.find(name)?;
+    let arm = arms.get(place)?;
+    Some(ArmFound {
+        number: arm.number,
+        shape: &arm.shape,
+    })
 }
 
 /// Whether a shape is a record without fields.

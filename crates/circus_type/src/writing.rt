@@ -75,6 +75,7 @@ fn labels(alloc: Global, list: &[LabelText]) -> Result<Labels, NoMemory>
             number: word(label.number),
         })?;
     }
+    labels.index_names()?;
     Ok(labels)
 }
 
@@ -108,6 +109,7 @@ pub fn written_groups<N: TypeNames>(
         let shape = shape_of_type(alloc, names, &group.shape)?;
         push_fields(&mut fields, group.names.as_slice(), &shape)?;
     }
+    fields.index_names()?;
     Ok(fields)
 }
 
@@ -125,5 +127,6 @@ fn written_arms<N: TypeNames>(alloc: Global, names: &N, arms: &[ArmText]) -> Res
             shape: shape_of_type(alloc, names, &arm.shape)?,
         })?;
     }
+    list.index_names()?;
     Ok(list)
 }
