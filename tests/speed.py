@@ -47,7 +47,7 @@ LABELS = """CIRCUS 1;
 Count: PROGRAM 1 VERSION 1 =
 BEGIN
   Kind: TYPE = {{{labels}}};
-  Add: PROCEDURE [k: Kind] RETURNS [sum: LONG CARDINAL] = 1;
+  Add: PROCEDURE [n: CARDINAL] RETURNS [sum: LONG CARDINAL] = 1;
 END.
 MODULE Counter IMPLEMENTS Count;
 BEGIN
@@ -108,6 +108,7 @@ RUNS = {
     "100,000 copies of 15,000 items": ("run p", {"p": program("copies")}, {0}),
     "2,000 calls with 32,768 items": ("run p", {"p": program("locals")}, {0}),
     "4,000 labels, 4,000 uses": ("stubs p", {"p": labels(4000, 4000)}, {0}),
+    "16,000 labels, 40,000 uses": ("stubs p", {"p": labels(16000, 40000)}, {0}),
 }
 
 
