@@ -283,9 +283,9 @@ at_next (z ∷ xs) x y ys = at_next xs x y ys
 -- were entered at boot, of one that was active then
 module _ (place : Place) (boot : List View) (begins : Joiner) (procedures : List ProcedureShape) (at_boot : ℕ) (b : Behaviour) (few : at_boot ≤ 1) (active_boot : is_active begins ≡ false → at_boot ≡ 0) where
   -- its record for a past, that became active with this state
-  record IsOneOf (state : List ValueTree) (p : Past) (kept : MemberRecord) : Type 0 where
-    timely : IsTimely place boot begins procedures at_boot kept p
-    follows : IsRecord b state kept
+  pub record IsOneOf (state : List ValueTree) (p : Past) (kept : MemberRecord) : Type 0 where
+    pub timely : IsTimely place boot begins procedures at_boot kept p
+    pub follows : IsRecord b state kept
 
   -- ---- one record
 
@@ -370,7 +370,7 @@ module _ (place : Place) (boot : List View) (begins : Joiner) (procedures : List
           by_answer each asked (Some m) is = (let low = each m is in omega (arith, low, asked))
 
       -- it ends where it was started, or later
-      ended_after : (m : ℕ) → x.ended ≡ Some m → x.started ≤ m
+      pub ended_after : (m : ℕ) → x.ended ≡ Some m → x.started ≤ m
       ended_after m is = elim x_is [
         | inl e ↦ (let same : step_after x.started x.asks ≡ m = same_Some (step_after x.started x.asks) m (sym e.ended_is ∙ is) in
             let low = rises_to x.started x.asks (asks_rise [] x.asks refl) in omega (arith, same, low))
@@ -416,12 +416,12 @@ module _ (place : Place) (boot : List View) (begins : Joiner) (procedures : List
 
     -- ---- the next run
 
-    record NextStarts (x z : RunRecord) : Type 0 where
-      ended : ℕ
-      is : x.ended ≡ Some ended
-      below : ended ≤ z.started
+    pub record NextStarts (x z : RunRecord) : Type 0 where
+      pub ended : ℕ
+      pub is : x.ended ≡ Some ended
+      pub below : ended ≤ z.started
 
-    next_starts : (before : List RunRecord) (x z : RunRecord) (rest : List RunRecord) → kept.runs ≡ before ++ x ∷ z ∷ rest → NextStarts x z
+    pub next_starts : (before : List RunRecord) (x z : RunRecord) (rest : List RunRecord) → kept.runs ≡ before ++ x ∷ z ∷ rest → NextStarts x z
     next_starts before x z rest are = by_ended x.ended refl ended
       where
         n : ℕ

@@ -416,7 +416,7 @@ module _ (d : Deployment) (b : Behaviour) (node number : ℕ) (troupe : Troupe) 
       by_one low None = (let later = rises.1 in omega (arith, low, later))
       by_one low (Some o) = omega arith
 
-  lived_rises : (kept : MemberRecord) (t : Trace) → Rises t → past.Rises (lived kept t)
+  pub lived_rises : (kept : MemberRecord) (t : Trace) → Rises t → past.Rises (lived kept t)
   lived_rises kept (booted made outputs) rises = tt
   lived_rises kept (stepped t at event made outputs) rises = by_one (lived_rises kept t rises.0) (happens kept t event)
     where
@@ -569,7 +569,7 @@ module _ (d : Deployment) (b : Behaviour) (node number : ℕ) (troupe : Troupe) 
 
   -- ---- two node runs
 
-  few : at_boot ≤ 1
+  pub few : at_boot ≤ 1
   few = by_phase (is_active begins) b.declared.root
     where
       by_phase : (t root : Bool) → (if t then (if root then 1 else 0) else 0) ≤ 1
@@ -577,7 +577,7 @@ module _ (d : Deployment) (b : Behaviour) (node number : ℕ) (troupe : Troupe) 
       by_phase true false = omega arith
       by_phase false root = omega arith
 
-  none_at_boot : is_active begins ≡ false → at_boot ≡ 0
+  pub none_at_boot : is_active begins ≡ false → at_boot ≡ 0
   none_at_boot inactive = ap (λ t. if t then (if b.declared.root then 1 else 0) else 0) inactive
 
   abbrev Since : Past → Past → MemberRecord → Type 0

@@ -29,6 +29,10 @@ pub mod AtOnce
 pub mod Arriving
 pub mod Askers
 pub mod Ordering
+pub mod OrderedParts
+pub mod OrderedReturns
+pub mod OrderedMakes
+pub mod OrderedStarts
 pub mod Fanouts
 pub mod SameCalls
 pub mod OrderOwing

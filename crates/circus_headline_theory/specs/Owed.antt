@@ -4,3 +4,4 @@ pub mod Fanout
 pub mod SameCall
 pub mod Makes
 pub mod Owes
+pub mod OrderedMakes

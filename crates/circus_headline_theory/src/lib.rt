@@ -25,7 +25,10 @@
 //! sum for calls, `States.antt` for state requests, `Wants.antt`, `Owing.antt` and `Requesting.antt`
 //! that for the calls that are no asks, and `Opening.antt`, `CallsOwing.antt` and `Calling.antt` that
 //! for the calls of asks. `Differing.antt` and `Telling.antt` have that differences are told, and
-//! `Ordering.antt` in which order all of it is made.
+//! `Ordering.antt` in which order all of it is made. `specs/Owed/OrderedMakes.antt` says of a trace
+//! what was made at boot, and how runs stand; `OrderedParts.antt`, `OrderedReturns.antt` and
+//! `OrderedMakes.antt` have that what is made in its order is what is owed, and `OrderedStarts.antt`
+//! that runs stand in the order of their starts.
 //!
 //! So it is with what a node makes and tells in its steps, whatever comes to it, and in every world
 //! (`laws::node_owed`). `specs/Owed/Makes.antt` says what a node makes, tells and hands over, by itself
@@ -63,7 +66,8 @@ pub use laws::node_owed::{
 };
 pub use laws::owed::{
     calls_are_owed, calls_are_the_same_that_say_the_same, calls_go_to_whom_they_are_owed,
-    differences_are_told, requests_are_owed, returns_are_owed, steps_are_in_order,
+    differences_are_told, order_says_what_is_made, requests_are_owed, returns_are_owed,
+    steps_are_in_order,
 };
 pub use laws::rules::returns_are_accepted_by_records;
 pub use laws::{

@@ -71,7 +71,7 @@ new_now c p step (comes.Declared node) all = refl
 new_now c p step comes.Joins all = refl
 
 -- those who asked are callers
-asks_called : (P : Caller → Type 0) (p : Past) → All P (callers p) → All (λ (e : ℕ × HeldCall). P e.1.sender) (asks p)
+pub asks_called : (P : Caller → Type 0) (p : Past) → All P (callers p) → All (λ (e : ℕ × HeldCall). P e.1.sender) (asks p)
 asks_called P booted all = All-nil (λ (e : ℕ × HeldCall). P e.1.sender)
 asks_called P (followed p step (comes.Asked header body sender)) all =
     All-push (λ (e : ℕ × HeldCall). P e.1.sender) (asks p) (step, (let call : HeldCall = record { header = header; body = body; sender = sender } in call)) (asks_called P p (All-without_last P (callers p) sender all)) (All-last P (callers p) sender all)
@@ -84,7 +84,7 @@ asks_called P (followed p step (comes.Restored state count)) all = asks_called P
 asks_called P (followed p step (comes.Declared node)) all = asks_called P p all
 asks_called P (followed p step comes.Joins) all = asks_called P p all
 
-requests_called : (P : Caller → Type 0) (p : Past) → All P (callers p) → All (λ (e : ℕ × Caller). P e.1) (requests p)
+pub requests_called : (P : Caller → Type 0) (p : Past) → All P (callers p) → All (λ (e : ℕ × Caller). P e.1) (requests p)
 requests_called P booted all = All-nil (λ (e : ℕ × Caller). P e.1)
 requests_called P (followed p step (comes.Asked header body sender)) all = requests_called P p (All-without_last P (callers p) sender all)
 requests_called P (followed p step (comes.Fetched incarnation sender)) all =

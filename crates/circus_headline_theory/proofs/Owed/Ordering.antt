@@ -74,7 +74,7 @@ use Rattle.circus_member_rules.specs.declared.place.Beginning.{Beginning}
 -- ---- kinds of effects
 
 -- it is a return
-abbrev is_return : Effect → Bool
+abbrev pub is_return : Effect → Bool
 is_return (made.Call to message purpose) = false
 is_return (made.Answer caller message) = true
 
@@ -82,25 +82,25 @@ all_returns : (message : List ℕ) (xs : List Caller) → All (λ e. is_return e
 all_returns message [] = All-nil (λ e. is_return e ≡ true)
 all_returns message (x ∷ xs) = All-cons (λ e. is_return e ≡ true) (answer message x) (answers message xs) refl (all_returns message xs)
 
-all_calls : {X : Type 0} (f : X → Effect) → ((x : X) → is_of_ask (f x) ≡ true) → (xs : List X) → All (λ e. is_of_ask e ≡ true) (map f xs)
+pub all_calls : {X : Type 0} (f : X → Effect) → ((x : X) → is_of_ask (f x) ≡ true) → (xs : List X) → All (λ e. is_of_ask e ≡ true) (map f xs)
 all_calls f is [] = All-nil (λ e. is_of_ask e ≡ true)
 all_calls f is (x ∷ xs) = All-cons (λ e. is_of_ask e ≡ true) (f x) (map f xs) (is x) (all_calls f is xs)
 
-all_requests : {X : Type 0} (f : X → Effect) → ((x : X) → is_request (f x) ≡ true) → (xs : List X) → All (λ e. is_request e ≡ true) (map f xs)
+pub all_requests : {X : Type 0} (f : X → Effect) → ((x : X) → is_request (f x) ≡ true) → (xs : List X) → All (λ e. is_request e ≡ true) (map f xs)
 all_requests f is [] = All-nil (λ e. is_request e ≡ true)
 all_requests f is (x ∷ xs) = All-cons (λ e. is_request e ≡ true) (f x) (map f xs) (is x) (all_requests f is xs)
 
 -- what of a list passes where all passes, and where none does
-passing : (test : Effect → Bool) (xs : List Effect) → All (λ e. test e ≡ true) xs → filter test xs ≡ xs
+pub passing : (test : Effect → Bool) (xs : List Effect) → All (λ e. test e ≡ true) xs → filter test xs ≡ xs
 passing test [] all = refl
 passing test (x ∷ xs) all = ap (λ b. cond b (x ∷ filter test xs) (filter test xs)) (All-head (λ e. test e ≡ true) x xs all) ∙ ap (λ l. x ∷ l) (passing test xs (All-tail (λ e. test e ≡ true) x xs all))
 
-failing : (test other : Effect → Bool) → ((e : Effect) → other e ≡ true → test e ≡ false) → (xs : List Effect) → All (λ e. other e ≡ true) xs → filter test xs ≡ []
+pub failing : (test other : Effect → Bool) → ((e : Effect) → other e ≡ true → test e ≡ false) → (xs : List Effect) → All (λ e. other e ≡ true) xs → filter test xs ≡ []
 failing test other apart [] all = refl
 failing test other apart (x ∷ xs) all =
     ap (λ b. cond b (x ∷ filter test xs) (filter test xs)) (apart x (All-head (λ e. other e ≡ true) x xs all)) ∙ failing test other apart xs (All-tail (λ e. other e ≡ true) x xs all)
 
-ask_is_no_request : (e : Effect) → is_of_ask e ≡ true → is_request e ≡ false
+pub ask_is_no_request : (e : Effect) → is_of_ask e ≡ true → is_request e ≡ false
 ask_is_no_request e is = by_effect e is
   where
     by_effect : (x : Effect) → is_of_ask x ≡ true → is_request x ≡ false
@@ -111,18 +111,18 @@ ask_is_no_request e is = by_effect e is
         from_not false h = refl
     by_effect (made.Answer caller message) h = cc
 
-request_is_no_ask : (e : Effect) → is_request e ≡ true → is_of_ask e ≡ false
+pub request_is_no_ask : (e : Effect) → is_request e ≡ true → is_of_ask e ≡ false
 request_is_no_ask e is = by_effect e is
   where
     by_effect : (x : Effect) → is_request x ≡ true → is_of_ask x ≡ false
     by_effect (made.Call to message purpose) h = ap not h
     by_effect (made.Answer caller message) h = refl
 
-return_is_no_ask : (e : Effect) → is_return e ≡ true → is_of_ask e ≡ false
+pub return_is_no_ask : (e : Effect) → is_return e ≡ true → is_of_ask e ≡ false
 return_is_no_ask (made.Call to message purpose) is = cc
 return_is_no_ask (made.Answer caller message) is = refl
 
-return_is_no_request : (e : Effect) → is_return e ≡ true → is_request e ≡ false
+pub return_is_no_request : (e : Effect) → is_return e ≡ true → is_request e ≡ false
 return_is_no_request (made.Call to message purpose) is = cc
 return_is_no_request (made.Answer caller message) is = refl
 
@@ -165,14 +165,14 @@ sorted_requests requests rest = sorted [] requests [] requests no_calls rest no_
 sorted_returns : (returns : List Effect) → All (λ e. is_return e ≡ true) returns → IsSorted returns returns
 sorted_returns returns answers = sorted [] [] returns returns no_calls no_requests answers refl
 
-ring_requests : (k : Knowing) (request : Request) → All (λ e. is_request e ≡ true) (request_to_ring k request)
+pub ring_requests : (k : Knowing) (request : Request) → All (λ e. is_request e ≡ true) (request_to_ring k request)
 ring_requests k request = by_test (is_among k.down ringmaster)
   where
     by_test : (b : Bool) → All (λ e. is_request e ≡ true) (if b then [] else request_call request ∷ [])
     by_test true = All-nil (λ e. is_request e ≡ true)
     by_test false = All-cons (λ e. is_request e ≡ true) (request_call request) [] refl (All-nil (λ e. is_request e ≡ true))
 
-gone_requests : (place : Place) (k : Knowing) (node : ℕ) → All (λ e. is_request e ≡ true) (gone_call place k node)
+pub gone_requests : (place : Place) (k : Knowing) (node : ℕ) → All (λ e. is_request e ≡ true) (gone_call place k node)
 gone_requests place k node = by_host (slice_get place.troupes node)
   where
     R : List Effect → Type 0
@@ -194,7 +194,7 @@ gone_requests place k node = by_host (slice_get place.troupes node)
     by_host None = All-nil (λ e. is_request e ≡ true)
     by_host (Some hosted) = by_hosted hosted
 
-again_calls : (k : Knowing) (name : AskName) (from incarnation : ℕ) (o : Option Asking) → All (λ e. is_of_ask e ≡ true) (option_map_or (call_again k name from incarnation) o [])
+pub again_calls : (k : Knowing) (name : AskName) (from incarnation : ℕ) (o : Option Asking) → All (λ e. is_of_ask e ≡ true) (option_map_or (call_again k name from incarnation) o [])
 again_calls k name from incarnation None = All-nil (λ e. is_of_ask e ≡ true)
 again_calls k name from incarnation (Some a) = by_view (slice_get k.views a.header.server)
   where
@@ -207,7 +207,7 @@ again_calls k name from incarnation (Some a) = by_view (slice_get k.views a.head
     by_view None = All-nil (λ e. is_of_ask e ≡ true)
     by_view (Some view) = by_next (next view k.down from incarnation)
 
-calls_new : (k : Knowing) (view : View) (asks : List (AskName × Asking)) → All (λ e. is_of_ask e ≡ true) (flat_map (calls_for_view k view) asks)
+pub calls_new : (k : Knowing) (view : View) (asks : List (AskName × Asking)) → All (λ e. is_of_ask e ≡ true) (flat_map (calls_for_view k view) asks)
 calls_new k view [] = All-nil (λ e. is_of_ask e ≡ true)
 calls_new k view (x ∷ asks) =
     All-append (λ e. is_of_ask e ≡ true) (calls_for_view k view x) (flat_map (calls_for_view k view) asks)

@@ -1,7 +1,16 @@
 // What holds of everything that a member makes.
 ghost use Rattle.std.specs.Prelude.{◌≡◌, ◌↔◌, ℕ, true, List};
 ghost use Rattle.circus_collate.specs.declared.view.View.{View};
+ghost use Rattle.circus_value.specs.ValueTree.{ValueTree};
+ghost use Rattle.circus_collate.specs.declared.deployment.Deployment.{Deployment};
+ghost use Rattle.circus_collate.specs.declared.deployment.Troupe.{Troupe};
 ghost use Rattle.circus_collate.specs.declared.kind.Kind.{Kind};
+ghost use Rattle.circus_ring.specs.RingTable.{boot_views};
+ghost use Rattle.circus_model.specs.Behaviour.{Behaviour};
+ghost use Rattle.circus_record.specs.declared.record.MemberRecord.{MemberRecord};
+ghost use Rattle.circus_performing.specs.Record.{IsRecord};
+ghost use Rattle.circus_node.specs.Booting.{beginning_in, home_in};
+ghost use Rattle.circus_node.specs.Trace.{Trace};
 ghost use Rattle.circus_header.specs.declared.call.CallHeader.{CallHeader};
 ghost use Rattle.circus_member_rules.specs.declared.occurrence.Occurrence.{Occurrence};
 ghost use Rattle.circus_member_rules.specs.declared.place.Beginning.{Beginning};
@@ -11,10 +20,15 @@ ghost use Rattle.circus_member_theory.specs.Differences.{differences};
 ghost use Rattle.circus_member_theory.specs.Made.{AreDistinct};
 ghost use Rattle.circus_member_theory.specs.Order.{IsInOrder};
 ghost use Rattle.circus_member_theory.specs.Owed.{AreReturned, AreRequested, AreAsked};
+ghost use Rattle.circus_member_theory.specs.Timely.{IsTimely};
 ghost use Rattle.circus_headline_theory.specs.Owed.Fanout.{Act, AreAnswers, CallsWhoIsOwed};
 ghost use Rattle.circus_gather.specs.Gathering.{is_same_call};
 ghost use Rattle.circus_gather.specs.declared.held.HeldCall.{HeldCall};
 ghost use Rattle.circus_headline_theory.specs.Owed.SameCall.{SaySame};
+ghost use Rattle.circus_headline_theory.specs.NodeRun.{past_of, runs_at_boot, IsOrdered};
+ghost use Rattle.circus_headline_theory.specs.Trace.{made_of, Rises};
+ghost use Rattle.circus_headline_theory.specs.Owed.OrderedMakes.{made_at_boot, BeginsRight};
+ghost use Rattle.circus_headline_theory.specs.Owed.OrderedMakes.{StartInOrder};
 ghost use Rattle.circus_headline_theory.specs.Owed.Living.{made_by, makes_in, told_by};
 ghost use Rattle.circus_member_theory.specs.Living.{HasLived, kept_after, phase_at_boot};
 
@@ -80,6 +94,44 @@ pub fn steps_are_in_order<M: Module>()
         → IsInOrder place views (phase_at_boot beginning) (M.first hosted)
         (kept_after M.declared M.turn M.first place views beginning hosted (followed p step o))
         p step o (makes_in M.declared M.turn M.first place views beginning hosted p step o) }
+{}
+
+/// Where all that a node made stands in its order, it is what its member owes, each in its step,
+/// and nothing else. This is so by the order alone, whatever made it, if at boot the calls of the
+/// asks of that step were made. For the calls of asks the runs stand in the order of their starts,
+/// as those of every record do that is in time (`starts`). For returns steps rise, and no two calls
+/// or state requests were made by one node under one number.
+pub fn order_says_what_is_made()
+    ensures requested { (d : Deployment) (b : Behaviour) (node number : ℕ) (troupe : Troupe)
+        (t : Trace) (kept : MemberRecord)
+        → IsOrdered d b node number troupe kept t
+        → BeginsRight (home_in d node number troupe).place (boot_views d.troupes) kept
+        (made_at_boot t)
+        → AreRequested (home_in d node number troupe).place (boot_views d.troupes)
+        (phase_at_boot (beginning_in troupe node)) kept
+        (past_of d b node number troupe kept t) (made_of t) }
+    ensures asked { (d : Deployment) (b : Behaviour) (node number : ℕ) (troupe : Troupe)
+        (t : Trace) (kept : MemberRecord)
+        → IsOrdered d b node number troupe kept t
+        → BeginsRight (home_in d node number troupe).place (boot_views d.troupes) kept
+        (made_at_boot t)
+        → StartInOrder kept.runs
+        → AreAsked (home_in d node number troupe).place (boot_views d.troupes) kept
+        (past_of d b node number troupe kept t) (made_of t) }
+    ensures returned { (d : Deployment) (b : Behaviour) (node number : ℕ) (troupe : Troupe)
+        (t : Trace) (kept : MemberRecord)
+        → IsOrdered d b node number troupe kept t
+        → BeginsRight (home_in d node number troupe).place (boot_views d.troupes) kept
+        (made_at_boot t)
+        → Rises t → AreDistinct (past_of d b node number troupe kept t)
+        → AreReturned number (phase_at_boot (beginning_in troupe node)) b.first kept
+        (past_of d b node number troupe kept t) (made_of t) }
+    ensures starts { (d : Deployment) (b : Behaviour) (node number : ℕ) (troupe : Troupe)
+        (p : Past) (state : List ValueTree) (kept : MemberRecord)
+        → IsTimely (home_in d node number troupe).place (boot_views d.troupes)
+        (phase_at_boot (beginning_in troupe node)) b.declared.procedures
+        (runs_at_boot d b node number troupe) kept p
+        → IsRecord b state kept → StartInOrder kept.runs }
 {}
 
 /// A call to many goes to whom it is owed, and to nobody else, whatever happens to it. At each time
