@@ -1,8 +1,7 @@
 -- What is made in its order, step by step, is what is owed.
-use Rattle.std.proofs.Common.{◌≡◌, ℕ, ◌+◌, ◌<◌, ◌≤◌, Bool, true, false, cond, if◌then◌else◌, List, [], ◌∷◌, ◌++◌, map, filter, All, Option, Some, None, refl, sym, ap, subst, ◌∙◌, arith, append-nil}
-use Rattle.std.specs.Prelude.{nat_eq, nat_lt}
+use Rattle.std.proofs.Common.{◌≡◌, ℕ, ◌<◌, ◌≤◌, Bool, true, false, cond, if◌then◌else◌, List, [], ◌∷◌, ◌++◌, map, filter, All, Option, Some, None, refl, sym, ap, subst, ◌∙◌, arith, append-nil}
+use Rattle.std.specs.Prelude.{nat_lt}
 use Rattle.std.specs.List.{flat_map, list_all}
-use Rattle.std.specs.Option.{option_map_or}
 use Rattle.std.proofs.lemmas.Bool.{eq-eqb, ne_eqb, lt-ltb}
 use Rattle.std.proofs.lemmas.List.Elements.{All-nil, All-head, All-tail, All-push, filter-append}
 use Rattle.circus_value.specs.ValueTree.{ValueTree}
@@ -12,12 +11,10 @@ use Rattle.circus_collate.specs.declared.deployment.Troupe.{Troupe}
 use Rattle.circus_collate.specs.declared.view.View.{View}
 use Rattle.circus_ring.specs.RingTable.{boot_views}
 use Rattle.circus_transfer.specs.declared.joiner.Joiner.{Joiner}
-use Rattle.circus_transfer.specs.Snapshot.{snapshot_bytes}
 use Rattle.circus_model.specs.Behaviour.{Behaviour}
 use Rattle.circus_record.specs.declared.record.MemberRecord.{MemberRecord}
 use Rattle.circus_gather.specs.declared.held.HeldCall.{HeldCall}
-use Rattle.circus_performing.specs.Performing.{is_active, state_after}
-use Rattle.circus_performing.specs.Record.{count_after}
+use Rattle.circus_performing.specs.Performing.{is_active}
 use Rattle.circus_member_rules.specs.declared.place.Place.{Place}
 use Rattle.circus_member_rules.specs.declared.occurrence.Effect.{Effect}
 use Rattle.circus_member_rules.specs.declared.occurrence.Occurrence.{Occurrence}
@@ -31,14 +28,14 @@ use Rattle.circus_world_theory.specs.Happened.{with_one}
 use Rattle.circus_member_theory.specs.Past.{Past, booted, followed, now, Rises, required_incarnation, phase}
 use Rattle.circus_member_theory.specs.First.{at_end, or_else, first_given}
 use Rattle.circus_member_theory.specs.Asks.{is_of_ask, knows, first_calls, new_asks, calls_owed}
-use Rattle.circus_member_theory.specs.Made.{is_caller, returns_to, at_most_one, asks, requests, callers, AreDistinct}
+use Rattle.circus_member_theory.specs.Made.{is_caller, returns_to, at_most_one, asks, requests, AreDistinct}
 use Rattle.circus_member_theory.specs.Order.{made_in_step}
 use Rattle.circus_member_theory.specs.Owed.{IsReturned, IsGivenState, AreReturned, AreRequested, AreAsked}
 use Rattle.circus_member_theory.specs.Requests.{is_request, requests_owed}
 use Rattle.circus_member_theory.specs.Returns.{first_of, has_ended, is_stale, is_before, reply_by, return_at, return_owed}
 use Rattle.circus_member_theory.specs.Snapshots.{runs_before, began, snapshot_at, snapshot_owed}
 use Rattle.circus_member_theory.specs.Living.{phase_at_boot}
-use Rattle.circus_member_theory.proofs.Timely.Firsts.{earlier, first_is, none_first}
+use Rattle.circus_member_theory.proofs.Timely.Firsts.{first_is, none_first}
 use Rattle.circus_headline_theory.specs.NodeRun.{happens_by, past_of, IsOrderedFor, IsOrdered}
 use Rattle.circus_headline_theory.specs.Owed.Living.{made_in}
 use Rattle.circus_headline_theory.specs.Owed.OrderedMakes.{made_at_boot, BeginsRight, StartInOrder}
