@@ -107,11 +107,11 @@ module _ (place : Place) (boot : List View) where
           all_requests lookup_call (λ troupe. refl) (due place boot begins kept (λ t. is_unanswered place boot begins kept p t && not (answers_lookup o t)) (followed p step o))
 
       module _ (first : List ValueTree) (q : Past) where
-        pub all_returned : (test : ℕ × HeldCall → Bool) → AreAll is_return (returns_now place boot begins first kept q test)
+        all_returned : (test : ℕ × HeldCall → Bool) → AreAll is_return (returns_now place boot begins first kept q test)
         all_returned test =
             flat_are is_return (λ (e : ℕ × HeldCall). if_now q e.1.sender (return_owed place.troupe begins kept e.0 e.1 q)) (λ e. now_returned q e.1.sender (return_owed place.troupe begins kept e.0 e.1 q)) (filter test (asks q))
 
-        pub all_given : AreAll is_return (snapshots_now place boot begins first kept q)
+        all_given : AreAll is_return (snapshots_now place boot begins first kept q)
         all_given =
             flat_are is_return (λ (e : ℕ × Caller). if_now q e.1 (snapshot_owed begins first kept e.0 q)) (λ e. now_returned q e.1 (snapshot_owed begins first kept e.0 q)) (requests q)
 
@@ -193,7 +193,7 @@ module _ (place : Place) (boot : List View) (begins : Joiner) (first : List Valu
   pub all_asked : (index : ℕ) (run : RunRecord) → AreAll is_of_ask (asked_by index run)
   all_asked index run = all_first place boot (knows place boot q) (asks_from place (is_new q) index run.root run.path 0 run.entry run.asks)
 
-  pub all_ended : (index : ℕ) (run : RunRecord) → AreAll is_return (ended_by index run)
+  all_ended : (index : ℕ) (run : RunRecord) → AreAll is_return (ended_by index run)
   all_ended index run = all_returned place boot begins kept first q (λ e. is_answered_by_end place boot begins first kept q e && is_of_index place.troupe index e.1)
 
   -- ---- its calls that are no asks

@@ -95,7 +95,7 @@ module _ (c : Caller) where
         ∙ ap (flat_map owed_now) (filter_twice mine test xs)
 
     -- one of which is by this caller
-    pub one_given : (x : X) (xs : List X) → filter mine xs ≡ x ∷ [] → (test : X → Bool) → returned c (flat_map to_sender (filter test xs)) ≡ (if test x then owed_now x else [])
+    one_given : (x : X) (xs : List X) → filter mine xs ≡ x ∷ [] → (test : X → Bool) → returned c (flat_map to_sender (filter test xs)) ≡ (if test x then owed_now x else [])
     one_given x xs alone test = to_mine test xs ∙ ap (λ l. flat_map owed_now (filter test l)) alone ∙ by_test (test x)
       where
         by_test : (t : Bool) → flat_map owed_now (cond t (x ∷ []) []) ≡ (if t then owed_now x else [])
@@ -103,14 +103,14 @@ module _ (c : Caller) where
         by_test false = refl
 
     -- or none
-    pub none_given : (xs : List X) → filter mine xs ≡ [] → (test : X → Bool) → returned c (flat_map to_sender (filter test xs)) ≡ []
+    none_given : (xs : List X) → filter mine xs ≡ [] → (test : X → Bool) → returned c (flat_map to_sender (filter test xs)) ≡ []
     none_given xs none test = to_mine test xs ∙ ap (λ l. flat_map owed_now (filter test l)) none
 
 -- ---- the run of an index is among those that were started before or among the others
 
 module _ {X : Type 0} (given : List X) where
   -- what only the run of an index gives
-  abbrev pub by_index : ℕ → ℕ → RunRecord → List X
+  abbrev by_index : ℕ → ℕ → RunRecord → List X
   by_index own index run = if nat_eq own index then given else []
 
   past_it : (pass : RunRecord → Bool) (own index : ℕ) (runs : List RunRecord) → own < index → of_runs pass (by_index own) index runs ≡ []
@@ -133,7 +133,7 @@ module _ {X : Type 0} (given : List X) where
       (λ j. (if pass x then (if other j then given else []) else []) ++ rest j) ∙ ap (λ l. l ++ (if pass run then given else [])) (nothing (pass x))
 
   -- so it gives it once
-  pub given_once : (pass : RunRecord → Bool) (own index n : ℕ) (runs : List RunRecord) (run : RunRecord) → own ≡ index + n → slice_get runs n ≡ Some run
+  given_once : (pass : RunRecord → Bool) (own index n : ℕ) (runs : List RunRecord) (run : RunRecord) → own ≡ index + n → slice_get runs n ≡ Some run
       → of_runs pass (by_index own) index runs ++ of_runs (λ x. not (pass x)) (by_index own) index runs ≡ given
   given_once pass own index n runs run at there =
       (λ j. at_it pass own index n runs run at there j ++ at_it (λ x. not (pass x)) own index n runs run at there j) ∙ by_test (pass run)

@@ -98,8 +98,8 @@ pub fn steps_are_in_order<M: Module>()
 
 /// Where all that a node made stands in its order, it is what its member owes, each in its step,
 /// and nothing else. This is so by the order alone, whatever made it, if at boot the calls of the
-/// asks of that step were made. For the calls of asks the runs stand in the order of their starts,
-/// as those of every record do that is in time (`starts`). For returns steps rise, and no two calls
+/// asks of that step were made. For the calls of asks runs stand in the order of their starts, as
+/// those of every record do that is in time (`starts`). For returns steps rise, and no two calls
 /// or state requests were made by one node under one number.
 pub fn order_says_what_is_made()
     ensures requested { (d : Deployment) (b : Behaviour) (node number : ℕ) (troupe : Troupe)
