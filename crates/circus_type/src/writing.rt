@@ -75,7 +75,7 @@ fn labels(alloc: Global, list: &[LabelText]) -> Result<Labels, NoMemory>
             number: word(label.number),
         })?;
     }
-    labels.index_names()?;
+    labels.seal()?;
     Ok(labels)
 }
 
@@ -109,7 +109,7 @@ pub fn written_groups<N: TypeNames>(
         let shape = shape_of_type(alloc, names, &group.shape)?;
         push_fields(&mut fields, group.names.as_slice(), &shape)?;
     }
-    fields.index_names()?;
+    fields.seal()?;
     Ok(fields)
 }
 
@@ -127,6 +127,6 @@ fn written_arms<N: TypeNames>(alloc: Global, names: &N, arms: &[ArmText]) -> Res
             shape: shape_of_type(alloc, names, &arm.shape)?,
         })?;
     }
-    list.index_names()?;
+    list.seal()?;
     Ok(list)
 }

@@ -9,7 +9,7 @@ pub fields_back : (fs : List FieldTree) → fields_in (field_trees fs) ≡ fs
 fields_back [] = refl
 fields_back (f ∷ fs) = ap (λ gs. f ∷ gs) (fields_back fs)
 
-arms_back : (arms : List ArmTree) → arms_in (arm_trees arms) ≡ arms
+pub arms_back : (arms : List ArmTree) → arms_in (arm_trees arms) ≡ arms
 arms_back [] = refl
 arms_back (a ∷ arms) = ap (λ others. a ∷ others) (arms_back arms)
 

@@ -3,6 +3,7 @@ pub mod ValueCode
 pub mod ValueWeight
 pub mod SharedItems
 pub mod NamePlaces
+pub mod ShapeWords
 pub mod ValueFalls
 pub mod ShapeCode
 pub mod ShapeWeight

@@ -22,6 +22,7 @@ mod size;
 mod tail;
 mod thread_text;
 mod value;
+mod words;
 
 pub use among::{has_label, is_among};
 pub use caller::{Caller, Callers};

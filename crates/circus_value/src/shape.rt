@@ -1,10 +1,14 @@
 // Shapes of values, and the lists that they are made of.
-ghost use Rattle.std.specs.Prelude.{◌≡◌, List, [], ◌∷◌, ◌++◌, length, map, option_map, option_copied, slice_get, bytes_eq, OnOk, OnErr, IfOk, IsTrue, ◌↔◌};
+ghost use Rattle.std.specs.Prelude.{◌≡◌, List, [], ◌∷◌, ◌++◌, length, map, option_map, option_copied, slice_get, bytes_eq, OnOk, OnErr, IfOk, IfSome, IsTrue, ◌↔◌};
 ghost use Rattle.std.specs.List.{position_from};
+ghost use Rattle.std.specs.Bool.{Decides};
 ghost use Rattle.circus_value.specs.ShapeOf.{tree_of, field_of, arm_of};
 ghost use Rattle.circus_value.specs.ArmShape.{arm_shape};
+ghost use Rattle.circus_value.specs.ShapeTree.{field_trees, arm_trees};
+ghost use Rattle.circus_value.specs.Seen.ShapeWords.{label_words, field_words, arm_words};
 
 use crate::name_index::{HasName, NameIndex};
+use crate::words::{Words, spell_arms, spell_fields, spell_labels};
 use crate::{Duplicate, Name, NoMemory};
 use std::alloc::Global;
 use std::marker::Model;
@@ -21,12 +25,17 @@ pub struct Label {
 pub struct Labels {
     items: Vec<Label>,
     index: NameIndex,
+    words: Words,
 }
 
 // Written out, so that dropping one is one step of a proof (docs/PROOFS.md, "Cost").
 impl Drop for Labels {
     fn drop(self) {
-        let Labels { items: _, index: _ } = self;
+        let Labels {
+            items: _,
+            index: _,
+            words: _,
+        } = self;
     }
 }
 
@@ -72,13 +81,18 @@ pub struct Arm {
 pub struct Fields {
     items: Vec<Field>,
     index: NameIndex,
+    words: Words,
 }
 
 // Written out, so that dropping one is one step of a proof (docs/PROOFS.md, "Cost").
 impl Drop for Fields {
     #[cycle(shape_drop)]
     fn drop(self) {
-        let Fields { items: _, index: _ } = self;
+        let Fields {
+            items: _,
+            index: _,
+            words: _,
+        } = self;
     }
 }
 
@@ -88,13 +102,18 @@ impl Drop for Fields {
 pub struct Arms {
     items: Vec<Arm>,
     index: NameIndex,
+    words: Words,
 }
 
 // Written out, so that dropping one is one step of a proof (docs/PROOFS.md, "Cost").
 impl Drop for Arms {
     #[cycle(shape_drop)]
     fn drop(self) {
-        let Arms { items: _, index: _ } = self;
+        let Arms {
+            items: _,
+            index: _,
+            words: _,
+        } = self;
     }
 }
 
@@ -117,12 +136,15 @@ impl Model for Labels {
     ghost use Rattle.std.specs.Prelude.{List};
     ghost use Rattle.circus_value.specs.declared.shape.Label.{Label};
     ghost use Rattle.circus_value.specs.Seen.NamePlaces.{IsIndexOf};
+    ghost use Rattle.circus_value.specs.Seen.ShapeWords.{AreWords, label_words};
 
     ghost Value = { List Label };
 
     ghost view = { λ a. a.items.items };
 
-    ghost invariant = { λ a. IsIndexOf (λ (l : Label). l.name) a.items.items a.index };
+    ghost invariant = { λ a.
+        IsIndexOf (λ (l : Label). l.name) a.items.items a.index
+        × AreWords (label_words a.items.items) a.words };
 }
 
 impl Model for Fields {
@@ -143,8 +165,11 @@ impl Model for Fields {
 
     ghost use Rattle.circus_value.specs.declared.shape.Field.{Field};
     ghost use Rattle.circus_value.specs.Seen.NamePlaces.{IsIndexOf};
+    ghost use Rattle.circus_value.specs.Seen.ShapeWords.{AreWords, field_words};
 
-    ghost invariant = { λ a. IsIndexOf (λ (f : Field). f.name) a.items.items a.index };
+    ghost invariant = { λ a.
+        IsIndexOf (λ (f : Field). f.name) a.items.items a.index
+        × AreWords (field_words (field_trees (map field_of a.items.items))) a.words };
 
     ghost size = { λ fs. field_weights (field_trees fs) };
 
@@ -171,8 +196,11 @@ impl Model for Arms {
 
     ghost use Rattle.circus_value.specs.declared.shape.Arm.{Arm};
     ghost use Rattle.circus_value.specs.Seen.NamePlaces.{IsIndexOf};
+    ghost use Rattle.circus_value.specs.Seen.ShapeWords.{AreWords, arm_words};
 
-    ghost invariant = { λ a. IsIndexOf (λ (a : Arm). a.name) a.items.items a.index };
+    ghost invariant = { λ a.
+        IsIndexOf (λ (a : Arm). a.name) a.items.items a.index
+        × AreWords (arm_words (arm_trees (map arm_of a.items.items))) a.words };
 
     ghost size = { λ arms. arm_weights (arm_trees arms) };
 
@@ -210,6 +238,7 @@ impl Labels {
         Labels {
             items: Vec::new(alloc),
             index: NameIndex::new(),
+            words: Words::new(),
         }
     }
 
@@ -254,17 +283,37 @@ impl Labels {
         ensures err { OnErr result (self.new ≡ self.old) }
     {
         self.index = NameIndex::new();
+        self.words = Words::new();
         self.items.push(item)?;
         Ok(())
     }
 
-    /// Makes a table of the names where there are many, for a list that doesn't grow any more. After `NoMemory` the list
-    /// is unchanged.
-    pub fn index_names(&mut self) -> Result<(), NoMemory>
+    /// Makes a table of the names, where there are many, and the words, for a list that doesn't grow any more. After
+    /// `NoMemory` the list is unchanged.
+    pub fn seal(&mut self) -> Result<(), NoMemory>
         ensures { self.new ≡ self.old }
     {
-        self.index = NameIndex::of(*self.items.allocator(), self.items.as_slice())?;
+        let alloc = *self.items.allocator();
+        let mut words = Vec::new(alloc);
+        spell_labels(&mut words, self)?;
+        self.index = NameIndex::of(alloc, self.items.as_slice())?;
+        self.words = Words::of(alloc, words)?;
         Ok(())
+    }
+
+    /// Whether two lists that were sealed, and didn't grow since, are equal. `None` where one wasn't or did. It takes no
+    /// memory.
+    pub fn is_like(&self, other: &Self) -> Option<bool>
+        ensures { IfSome result (λ like. Decides like (self.now ≡ other.now)) }
+    {
+        self.words.are_like(&other.words)
+    }
+
+    // The words of a list that was sealed.
+    pub(crate) fn words(&self) -> Option<&[u16]>
+        ensures { IfSome result (λ words. words.now ≡ label_words self.now) }
+    {
+        self.words.as_slice()
     }
 }
 
@@ -276,6 +325,7 @@ impl Fields {
         Fields {
             items: Vec::new(alloc),
             index: NameIndex::new(),
+            words: Words::new(),
         }
     }
 
@@ -320,17 +370,37 @@ impl Fields {
         ensures err { OnErr result (self.new ≡ self.old) }
     {
         self.index = NameIndex::new();
+        self.words = Words::new();
         self.items.push(item)?;
         Ok(())
     }
 
-    /// Makes a table of the names where there are many, for a list that doesn't grow any more. After `NoMemory` the list
-    /// is unchanged.
-    pub fn index_names(&mut self) -> Result<(), NoMemory>
+    /// Makes a table of the names, where there are many, and the words, for a list that doesn't grow any more. After
+    /// `NoMemory` the list is unchanged.
+    pub fn seal(&mut self) -> Result<(), NoMemory>
         ensures { self.new ≡ self.old }
     {
-        self.index = NameIndex::of(*self.items.allocator(), self.items.as_slice())?;
+        let alloc = *self.items.allocator();
+        let mut words = Vec::new(alloc);
+        spell_fields(&mut words, self)?;
+        self.index = NameIndex::of(alloc, self.items.as_slice())?;
+        self.words = Words::of(alloc, words)?;
         Ok(())
+    }
+
+    /// Whether two lists that were sealed, and didn't grow since, are equal. `None` where one wasn't or did. It takes no
+    /// memory.
+    pub fn is_like(&self, other: &Self) -> Option<bool>
+        ensures { IfSome result (λ like. Decides like (self.now ≡ other.now)) }
+    {
+        self.words.are_like(&other.words)
+    }
+
+    // The words of a list that was sealed.
+    pub(crate) fn words(&self) -> Option<&[u16]>
+        ensures { IfSome result (λ words. words.now ≡ field_words (field_trees self.now)) }
+    {
+        self.words.as_slice()
     }
 }
 
@@ -342,6 +412,7 @@ impl Arms {
         Arms {
             items: Vec::new(alloc),
             index: NameIndex::new(),
+            words: Words::new(),
         }
     }
 
@@ -398,17 +469,37 @@ impl Arms {
         ensures err { OnErr result (self.new ≡ self.old) }
     {
         self.index = NameIndex::new();
+        self.words = Words::new();
         self.items.push(item)?;
         Ok(())
     }
 
-    /// Makes a table of the names where there are many, for a list that doesn't grow any more. After `NoMemory` the list
-    /// is unchanged.
-    pub fn index_names(&mut self) -> Result<(), NoMemory>
+    /// Makes a table of the names, where there are many, and the words, for a list that doesn't grow any more. After
+    /// `NoMemory` the list is unchanged.
+    pub fn seal(&mut self) -> Result<(), NoMemory>
         ensures { self.new ≡ self.old }
     {
-        self.index = NameIndex::of(*self.items.allocator(), self.items.as_slice())?;
+        let alloc = *self.items.allocator();
+        let mut words = Vec::new(alloc);
+        spell_arms(&mut words, self)?;
+        self.index = NameIndex::of(alloc, self.items.as_slice())?;
+        self.words = Words::of(alloc, words)?;
         Ok(())
+    }
+
+    /// Whether two lists that were sealed, and didn't grow since, are equal. `None` where one wasn't or did. It takes no
+    /// memory.
+    pub fn is_like(&self, other: &Self) -> Option<bool>
+        ensures { IfSome result (λ like. Decides like (self.now ≡ other.now)) }
+    {
+        self.words.are_like(&other.words)
+    }
+
+    // The words of a list that was sealed.
+    pub(crate) fn words(&self) -> Option<&[u16]>
+        ensures { IfSome result (λ words. words.now ≡ arm_words (arm_trees self.now)) }
+    {
+        self.words.as_slice()
     }
 }
 
@@ -448,6 +539,7 @@ impl Duplicate for Labels {
         Ok(Labels {
             items,
             index: self.index.copy()?,
+            words: self.words.copy()?,
         })
     }
 }
@@ -526,6 +618,7 @@ impl Duplicate for Fields {
         Ok(Fields {
             items,
             index: self.index.copy()?,
+            words: self.words.copy()?,
         })
     }
 }
@@ -540,6 +633,7 @@ impl Duplicate for Arms {
         Ok(Arms {
             items,
             index: self.index.copy()?,
+            words: self.words.copy()?,
         })
     }
 }
