@@ -22,7 +22,7 @@ use Rattle.circus_schedule.specs.declared.line.Line.TheVariants.{Deliver, Tick, 
 use Rattle.circus_world.specs.Course.{sent_by}
 use Rattle.circus_world.specs.Lines.{Leads, Lead}
 use Rattle.circus_world.specs.WorldState.{WorldState, Standing}
-use Rattle.circus_world.specs.declared.sent.Sent.{Sent}
+use Rattle.circus_world.specs.Sent.{Sent}
 use Rattle.circus_world.proofs.LineLemmas.{sent_stays}
 use Rattle.circus_world.proofs.SlotLemmas.{get_there}
 use Rattle.circus_world_theory.specs.Histories as talks

@@ -17,7 +17,7 @@ use Rattle.circus_world.specs.Lines.{Leads, Lead}
 use Rattle.circus_world.specs.WorldState.{WorldState, Standing, is_live, has_crashed, has_joined}
 use Rattle.circus_world.specs.declared.cause.LineCause.{LineCause}
 use Rattle.circus_world.specs.declared.cause.LineCause.TheVariants.{NotLive, NotCrashed, NotSpare, AlreadyJoined}
-use Rattle.circus_world.specs.declared.sent.Sent.{Sent}
+use Rattle.circus_world.specs.Sent.{Sent}
 use Rattle.circus_world.proofs.ComeLemmas.{live_then}
 use Rattle.circus_world.proofs.LineLemmas.{sent_stays, steps_counted, steps_rise}
 use Rattle.circus_world.proofs.SlotLemmas.{get_there, all_at}

@@ -77,7 +77,7 @@ use Rattle.circus_node.specs.declared.event.Event.TheVariants as comes
 use Rattle.circus_schedule.specs.declared.line.Line.{Line}
 use Rattle.circus_world.specs.WorldState.{WorldState, Standing}
 use Rattle.circus_world.specs.Lines.{IsBetween}
-use Rattle.circus_world.specs.declared.sent.Sent.{Sent}
+use Rattle.circus_world.specs.Sent.{Sent}
 use Rattle.circus_world.proofs.SlotLemmas.{get_there}
 use Rattle.circus_world_theory.specs.Histories.{beginning_of, acts_of}
 use Rattle.circus_node.specs.Trace.{effects_in}

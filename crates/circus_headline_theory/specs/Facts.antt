@@ -18,7 +18,7 @@ use Rattle.circus_value.specs.Among.{is_among}
 use Rattle.circus_node.specs.Accepting.{troupe_at, is_root}
 use Rattle.circus_world_theory.specs.Done.{IsDone}
 use Rattle.circus_node.specs.NodeState.{member_record, ring_views}
-use Rattle.circus_world.specs.declared.sent.Sent.{Sent}
+use Rattle.circus_world.specs.Sent.{Sent}
 use Rattle.circus_world.specs.WorldState.{WorldState, Standing}
 use Rattle.circus_report.specs.Report.{first_line, sent_lines}
 use Rattle.circus_report.specs.ViewLines.{ringmaster_line, views_lines}

@@ -10,7 +10,7 @@ use Rattle.circus_member_rules.specs.Rules.{ringmaster}
 use Rattle.circus_node.specs.Accepting.{troupe_at}
 use Rattle.circus_schedule.specs.declared.line.Line.{Line}
 use Rattle.circus_world.specs.Lines.{IsBetween}
-use Rattle.circus_world.specs.declared.sent.Sent.{Sent}
+use Rattle.circus_world.specs.Sent.{Sent}
 use Rattle.circus_headline_theory.specs.Facts.{Facts, NodeFacts, AllStand}
 use Rattle.circus_headline_theory.specs.NodeRun.{IsNodeRun}
 use Rattle.circus_headline_theory.specs.Trace.{events_of}

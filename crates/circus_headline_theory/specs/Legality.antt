@@ -4,7 +4,7 @@ use Rattle.circus_collate.specs.declared.deployment.Deployment.{Deployment}
 use Rattle.circus_schedule.specs.declared.line.Line.{Line}
 use Rattle.circus_schedule.specs.declared.line.Line.TheVariants.{Deliver, Tick, Crash, Down, Join}
 use Rattle.circus_world.specs.Legal.{is_spare}
-use Rattle.circus_world.specs.declared.sent.Sent.{Sent}
+use Rattle.circus_world.specs.Sent.{Sent}
 use Rattle.circus_headline_theory.specs.Events.{crash_in, joins_in}
 
 -- the node is one of the program, and didn't crash before

@@ -1,7 +1,7 @@
 -- What a node sent of all that was sent, and what it gave along a trace, each with its step.
 use Rattle.std.specs.Prelude.{◌≡◌, ℕ, ◌==◌, Bool, List, ◌++◌, filter, map}
 use Rattle.circus_node.specs.declared.event.Give.{Give}
-use Rattle.circus_world.specs.declared.sent.Sent.{Sent}
+use Rattle.circus_world.specs.Sent.{Sent}
 use Rattle.circus_node.specs.Trace.{Trace, booted, stepped}
 
 abbrev pub is_from : ℕ → Sent → Bool

@@ -4,7 +4,7 @@ use Rattle.circus_collate.specs.declared.deployment.Host.{Host}
 use Rattle.circus_idl.specs.declared.interface.Procedure.{Procedure}
 use Rattle.circus_record.specs.Naming.{Names}
 use Rattle.circus_schedule.specs.declared.line.Line.{Line}
-use Rattle.circus_world.specs.declared.sent.Sent.{Sent}
+use Rattle.circus_world.specs.Sent.{Sent}
 use Rattle.circus_world.specs.WorldState.{WorldState, Standing}
 use Rattle.circus_picture.specs.Row.{width}
 use Rattle.circus_picture.specs.Deeds.{deeds_of}

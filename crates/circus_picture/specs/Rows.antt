@@ -7,7 +7,7 @@ use Rattle.circus_idl.specs.declared.interface.Procedure.{Procedure}
 use Rattle.circus_record.specs.Naming.{Names}
 use Rattle.circus_schedule.specs.declared.line.Line.{Line}
 use Rattle.circus_schedule.specs.declared.line.Line.TheVariants.{Deliver, Tick, Crash, Down, Join}
-use Rattle.circus_world.specs.declared.sent.Sent.{Sent}
+use Rattle.circus_world.specs.Sent.{Sent}
 use Rattle.circus_picture.specs.declared.row.Drawn.{Drawn}
 use Rattle.circus_picture.specs.declared.row.Drawn.TheVariants.{Nothing, Sign, Arrow}
 use Rattle.circus_picture.specs.Row.{field, row, is_live_at}

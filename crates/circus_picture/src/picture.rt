@@ -73,7 +73,7 @@ pub fn put_picture<M: Module, K: Sink>(
         names: &names,
         procedures: procedures.as_slice(),
         columns: &columns,
-        sent: world.sent().as_slice(),
+        sent: world.sent(),
     };
     put_parts(&scene, &parts, sink)
 }

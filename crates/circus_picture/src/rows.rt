@@ -1,5 +1,6 @@
 // The rows of lines, of what members did, and of what was never delivered (docs/FORMATS.md, "Pictures").
 ghost use Rattle.std.specs.Prelude.{◌≡◌, ◌++◌, IfOk, OnOk};
+ghost use Rattle.circus_world.specs.Seen.Entries.{sent_as};
 ghost use Rattle.circus_picture.specs.Deeds as done;
 ghost use Rattle.circus_picture.specs.Rows as spec;
 ghost use Rattle.circus_picture.specs.Seen.Drawing.{scene_of};
@@ -11,7 +12,7 @@ use crate::row::{Columns, Drawn, is_live_at};
 use circus_idl::Procedures;
 use circus_record::Naming;
 use circus_value::{ListOf, NoMemory, Octets, PathText};
-use circus_world::{Line, Sent};
+use circus_world::{Line, Sent, SentList};
 use std::alloc::Global;
 
 /// What rows are drawn by.
@@ -23,7 +24,7 @@ pub(crate) struct Scene<'a, N> {
     pub procedures: &'a [Procedures],
     pub columns: &'a Columns,
     /// Everything that was sent, by its number.
-    pub sent: &'a [Sent],
+    pub sent: &'a SentList,
 }
 
 impl<N: Naming> Scene<'_, N> {
@@ -125,22 +126,17 @@ impl<N: Naming> Scene<'_, N> {
         let text = format!(in self.alloc; "{number} ")?;
         let mut text = ListOf::of(text.into_bytes());
         if let Some(sent) = self.sent.get(number as usize) {
-            self.append_label(&mut text, sent)?;
+            self.append_label(&mut text, &sent)?;
         }
         Ok(text)
     }
 
     // Adds the label of a datagram.
-    fn append_label(&self, text: &mut Octets, sent: &Sent) -> Result<(), NoMemory>
+    fn append_label(&self, text: &mut Octets, sent: &Sent<'_>) -> Result<(), NoMemory>
         ensures { OnOk result
-            (text.new ≡ text.old ++ spec.label_of (scene_of N.names self.now) sent.now) }
+            (text.new ≡ text.old ++ spec.label_of (scene_of N.names self.now) (sent_as sent.now)) }
     {
-        let label = label(
-            self.alloc,
-            self.names,
-            self.procedures,
-            sent.bytes.as_slice(),
-        )?;
+        let label = label(self.alloc, self.names, self.procedures, sent.bytes)?;
         text.append(label.as_slice())
     }
 
@@ -215,14 +211,14 @@ impl<N: Naming> Scene<'_, N> {
         ensures { IfOk result (λ text. text ≡ spec.left_text (scene_of N.names self.now) number) }
     {
         match self.sent.get(number as usize) {
-            Some(sent) => self.sent_text(number, sent),
+            Some(sent) => self.sent_text(number, &sent),
             None => Ok(ListOf::new(self.alloc)),
         }
     }
 
-    fn sent_text(&self, number: u64, sent: &Sent) -> Result<Octets, NoMemory>
+    fn sent_text(&self, number: u64, sent: &Sent<'_>) -> Result<Octets, NoMemory>
         ensures { IfOk result (λ text.
-            text ≡ spec.sent_text (scene_of N.names self.now) number sent.now) }
+            text ≡ spec.sent_text (scene_of N.names self.now) number (sent_as sent.now)) }
     {
         let from = self.names.node(usize::from(sent.from));
         let to = self.names.node(usize::from(sent.to));

@@ -19,7 +19,7 @@ use Rattle.circus_schedule.specs.declared.line.Line.TheVariants.{Deliver, Tick, 
 use Rattle.circus_schedule.specs.Meaning.{NamesBelow}
 use Rattle.circus_world.specs.declared.cause.LineCause.{LineCause}
 use Rattle.circus_world.specs.declared.cause.LineCause.TheVariants.{NotLive, NotCrashed, NotSpare}
-use Rattle.circus_world.specs.declared.sent.Sent.{Sent}
+use Rattle.circus_world.specs.Sent.{Sent}
 use Rattle.circus_world.specs.WorldState.{WorldState, Standing, is_live, has_crashed}
 use Rattle.circus_world.specs.Legal.{refusal, is_spare, unless_told}
 use Rattle.circus_world.specs.Course.{Stepped, step_line}

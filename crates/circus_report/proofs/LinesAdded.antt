@@ -5,7 +5,7 @@ use Rattle.std.proofs.lemmas.Option.{slice_get_cases, slice_get_read, slice_get_
 use Rattle.circus_collate.specs.declared.deployment.Host.{Host}
 use Rattle.circus_record.specs.Naming.{Names}
 use Rattle.circus_record.proofs.LinesMore.{more_from_none}
-use Rattle.circus_world.specs.declared.sent.Sent.{Sent}
+use Rattle.circus_world.specs.Sent.{Sent}
 use Rattle.circus_world.specs.WorldState.{Standing}
 use Rattle.circus_report.specs.Report.{sent_line, sent_lines, member_at, members_lines}
 

@@ -3,7 +3,7 @@ use Rattle.std.proofs.Common.{◌≡◌, ℕ, ◌+◌, ◌-◌, ◌<◌, ◌≤�
 use Rattle.std.proofs.lemmas.List.{take-append-drop, get_or-drop}
 use Rattle.circus_record.specs.Naming.{Names}
 use Rattle.circus_record.proofs.LinesMore.{all_append, item_more}
-use Rattle.circus_world.specs.declared.sent.Sent.{Sent}
+use Rattle.circus_world.specs.Sent.{Sent}
 use Rattle.circus_report.specs.Report.{sent_line, sent_lines}
 use Rattle.circus_report.specs.Writing.{WritesPart}
 use Rattle.circus_report.proofs.ToldLemmas.{take-behind, WritesPart-longer}

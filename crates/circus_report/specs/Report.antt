@@ -8,7 +8,7 @@ use Rattle.circus_record.specs.Line.{line}
 use Rattle.circus_record.specs.Naming.{Names}
 use Rattle.circus_record.specs.MemberText.{member_lines}
 use Rattle.circus_node.specs.NodeState.{member_record, ring_views}
-use Rattle.circus_world.specs.declared.sent.Sent.{Sent}
+use Rattle.circus_world.specs.Sent.{Sent}
 use Rattle.circus_world.specs.WorldState.{WorldState, Standing}
 use Rattle.circus_report.specs.ViewLines.{ringmaster_line, views_lines}
 

@@ -172,11 +172,11 @@ fn put_sent<M: Module, K: Sink>(
     ensures count { OnOk result (K.faults sink.new ≡ K.faults sink.old) }
 {
     let nodes = world.deployment().nodes.as_slice();
-    let sent = world.sent().as_slice();
+    let sent = world.sent();
     let mut line = Vec::new(alloc);
     for number in from..sent.len() {
         line.clear();
-        append_sent(&mut line, nodes, number as u64, &sent[number])?;
+        append_sent(&mut line, nodes, number as u64, &sent.at(number))?;
         put_line(sink, line.as_slice())?;
     }
     Ok(())

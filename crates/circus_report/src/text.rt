@@ -4,6 +4,7 @@ ghost use Rattle.hex.specs.Hex.{encode_lower};
 ghost use Rattle.circus_record.specs.Line.{line};
 ghost use Rattle.circus_record.specs.Naming.{host_name, names_of};
 ghost use Rattle.circus_world.specs.WorldState.{Standing};
+ghost use Rattle.circus_world.specs.Seen.Entries.{sent_as};
 ghost use Rattle.circus_report.specs.Report as report;
 
 use crate::views::{RingmasterLine, ViewsText};
@@ -11,7 +12,7 @@ use circus_collate::{Deployment, Host};
 use circus_model::Module;
 use circus_record::{MemberText, Naming, ProgramNames};
 use circus_value::{ListOf, Name, NoMemory, Octets};
-use circus_world::{Sent, World};
+use circus_world::{Sent, SentList, World};
 use itoa::Buffer;
 use std::alloc::{AllocError, Global};
 
@@ -23,10 +24,10 @@ pub fn show_sent(
     alloc: Global,
     deployment: &Deployment,
     number: u64,
-    sent: &Sent,
+    sent: &Sent<'_>,
 ) -> Result<Octets, NoMemory>
     ensures { IfOk result (λ text.
-        text ≡ report.sent_line (names_of deployment.now.nodes []) number sent.now) }
+        text ≡ report.sent_line (names_of deployment.now.nodes []) number (sent_as sent.now)) }
 {
     let mut line = Vec::new(alloc);
     append_sent(&mut line, deployment.nodes.as_slice(), number, sent)?;
@@ -48,7 +49,7 @@ pub fn show_report<M: Module>(
     let nodes = world.deployment().nodes.as_slice();
     let mut text = Vec::new(alloc);
     text.extend_from_slice(REPORT.as_bytes())?;
-    append_all_sent(&mut text, nodes, world.sent().as_slice())?;
+    append_all_sent(&mut text, nodes, world.sent())?;
     let rest = show_rest(alloc, world, names)?;
     text.extend_from_slice(rest.as_slice())?;
     Ok(ListOf::of(text))
@@ -74,7 +75,7 @@ pub fn show_rest<M: Module>(
 
 // Room for the line of a datagram: two bytes for each of its own, and what stands before them; at least what most lines of a
 // step need, which are written in the same place.
-fn room_for(sent: &Sent) -> usize {
+fn room_for(sent: &Sent<'_>) -> usize {
     sent.bytes
         .len()
         .saturating_mul(2)
@@ -87,10 +88,10 @@ pub(crate) fn append_sent(
     text: &mut Vec<u8>,
     nodes: &[Host],
     number: u64,
-    sent: &Sent,
+    sent: &Sent<'_>,
 ) -> Result<(), NoMemory>
     ensures { OnOk result (text.new.items
-        ≡ text.old.items ++ report.sent_line (names_of nodes.now []) number sent.now) }
+        ≡ text.old.items ++ report.sent_line (names_of nodes.now []) number (sent_as sent.now)) }
 {
     text.reserve(room_for(sent))?;
     append_sender(text, nodes, number, sent)?;
@@ -102,10 +103,10 @@ fn append_sender(
     text: &mut Vec<u8>,
     nodes: &[Host],
     number: u64,
-    sent: &Sent,
+    sent: &Sent<'_>,
 ) -> Result<(), NoMemory>
     ensures { OnOk result (text.new.items
-        ≡ text.old.items ++ report.sent_head (names_of nodes.now []) number sent.now) }
+        ≡ text.old.items ++ report.sent_head (names_of nodes.now []) number (sent_as sent.now)) }
 {
     let mut digits = Buffer::new();
     text.extend_from_slice(b"datagram ")?;
@@ -117,15 +118,15 @@ fn append_sender(
 }
 
 // Adds to whom it was sent, and its bytes.
-fn append_content(text: &mut Vec<u8>, nodes: &[Host], sent: &Sent) -> Result<(), NoMemory>
+fn append_content(text: &mut Vec<u8>, nodes: &[Host], sent: &Sent<'_>) -> Result<(), NoMemory>
     ensures { OnOk result (text.new.items ≡ text.old.items
         ++ line (codes " to " ++ (names_of nodes.now []).node sent.now.to ++ codes " "
-        ++ encode_lower sent.now.bytes)) }
+        ++ encode_lower sent.now.bytes.now)) }
 {
     text.extend_from_slice(b" to ")?;
     append_node(text, nodes, sent.to)?;
     text.extend_from_slice(b" ")?;
-    append_digits(text, sent.bytes.as_slice())?;
+    append_digits(text, sent.bytes)?;
     text.extend_from_slice(b"\n")
 }
 
@@ -159,12 +160,12 @@ fn append_digits(text: &mut Vec<u8>, bytes: &[u8]) -> Result<(), NoMemory>
 }
 
 // Adds the lines of datagrams, the first of which has number 0.
-fn append_all_sent(text: &mut Vec<u8>, nodes: &[Host], all: &[Sent]) -> Result<(), NoMemory>
+fn append_all_sent(text: &mut Vec<u8>, nodes: &[Host], all: &SentList) -> Result<(), NoMemory>
     ensures { OnOk result (text.new.items
         ≡ text.old.items ++ report.sent_lines (names_of nodes.now []) 0 all.now) }
 {
-    for (number, sent) in all.iter().enumerate() {
-        append_sent(text, nodes, number as u64, sent)?;
+    for number in 0..all.len() {
+        append_sent(text, nodes, number as u64, &all.at(number))?;
     }
     Ok(())
 }

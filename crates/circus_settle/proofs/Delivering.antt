@@ -13,7 +13,7 @@ use Rattle.circus_node.specs.Step as node_step
 use Rattle.circus_schedule.specs.declared.line.Line.TheVariants.{Deliver}
 use Rattle.circus_world.specs.declared.cause.LineCause.{LineCause}
 use Rattle.circus_world.specs.declared.cause.LineCause.TheVariants.{NoDatagram}
-use Rattle.circus_world.specs.declared.sent.Sent.{Sent}
+use Rattle.circus_world.specs.Sent.{Sent}
 use Rattle.circus_world.specs.WorldState.{WorldState, Standing, is_live}
 use Rattle.circus_world.specs.Legal.{refusal}
 use Rattle.circus_world.specs.Course.{Stepped, sent_by, pass_step, conclude_step, comes_to, deliver_sent, step_line}

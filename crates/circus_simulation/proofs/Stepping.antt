@@ -15,7 +15,7 @@ use Rattle.circus_node.specs.Step as node_step
 use Rattle.circus_schedule.specs.declared.line.Line.{Line}
 use Rattle.circus_schedule.specs.declared.line.Line.TheVariants.{Deliver, Tick, Crash, Down, Join}
 use Rattle.circus_schedule.specs.Sampling.{IsPossible, word_behind, line_drawn}
-use Rattle.circus_world.specs.declared.sent.Sent.{Sent}
+use Rattle.circus_world.specs.Sent.{Sent}
 use Rattle.circus_world.specs.WorldState.{WorldState, Standing}
 use Rattle.circus_world.specs.Course.{Stepped, pass_step, told_to_join, conclude_step, comes_to, deliver_sent, step_line}
 use Rattle.circus_world.specs.Boot.{then_others}

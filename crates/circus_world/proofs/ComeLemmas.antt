@@ -11,7 +11,7 @@ use Rattle.circus_node.specs.declared.event.Event.{Event}
 use Rattle.circus_node.specs.declared.event.Event.TheVariants as comes
 use Rattle.circus_node.specs.Step.{CanCome}
 use Rattle.circus_schedule.specs.declared.line.Line.TheVariants.{Deliver, Down}
-use Rattle.circus_world.specs.declared.sent.Sent.{Sent}
+use Rattle.circus_world.specs.Sent.{Sent}
 use Rattle.circus_world.specs.declared.cause.LineCause.{LineCause}
 use Rattle.circus_world.specs.declared.cause.LineCause.TheVariants.{NotCrashed, NotLive}
 use Rattle.circus_world.specs.WorldState.{WorldState, Standing, is_live, has_crashed}

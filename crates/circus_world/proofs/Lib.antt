@@ -3,6 +3,7 @@ pub mod ComeLemmas
 pub mod LegalLemmas
 pub mod LineLemmas
 pub mod RingLemmas
+pub mod SentLemmas
 pub mod SlotLemmas
 pub mod SoundLemmas
 pub mod WorldLemmas

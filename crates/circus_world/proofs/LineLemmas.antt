@@ -19,7 +19,7 @@ use Rattle.circus_schedule.specs.declared.line.Line.{Line}
 use Rattle.circus_schedule.specs.declared.line.Line.TheVariants.{Deliver, Tick, Crash, Down, Join}
 use Rattle.circus_world.specs.declared.cause.LineCause.{LineCause}
 use Rattle.circus_world.specs.declared.cause.LineCause.TheVariants.{NoDatagram}
-use Rattle.circus_world.specs.declared.sent.Sent.{Sent}
+use Rattle.circus_world.specs.Sent.{Sent}
 use Rattle.circus_world.specs.WorldState.{WorldState, Standing, is_live}
 use Rattle.circus_world.specs.Course.{sent_by, Stepped, pass_step, crash_node, told_to_join, conclude_step, comes_to, deliver_sent}
 use Rattle.circus_world.specs.Boot.{before_any, joined_by, then_others, all_booted}

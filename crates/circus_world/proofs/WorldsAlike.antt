@@ -18,7 +18,7 @@ use Rattle.circus_schedule.specs.declared.line.Line.{Line}
 use Rattle.circus_schedule.specs.declared.line.Line.TheVariants.{Deliver, Tick, Crash, Down, Join}
 use Rattle.circus_node.specs.Alike.{declared_of, turn_of, first_of, ended_as}
 use Rattle.circus_node.proofs.NodesAlike.{node_stepped_as, node_booted_as}
-use Rattle.circus_world.specs.declared.sent.Sent.{Sent}
+use Rattle.circus_world.specs.Sent.{Sent}
 use Rattle.circus_world.specs.declared.cause.LineCause.TheVariants as cause
 use Rattle.circus_world.specs.WorldState.{WorldState, Standing, is_live, has_crashed, has_joined}
 use Rattle.circus_world.specs.Legal.{refusal, unless_live, is_spare}

@@ -5,4 +5,5 @@ pub mod Course
 pub mod Legal
 pub mod Lines
 pub mod Seen
+pub mod Sent
 pub mod WorldState

@@ -1,4 +1,5 @@
 pub mod Coming
+pub mod Entries
 pub mod Followed
 pub mod Made
 pub mod MadeAt

@@ -3,7 +3,7 @@ use Rattle.std.specs.Prelude.{ℕ, Bool, false, List, slice_get, Option, is_none
 use Rattle.std.specs.Option.{option_map_or}
 use Rattle.circus_collate.specs.declared.deployment.Deployment.{Deployment}
 use Rattle.circus_node.specs.NodeState.{NodeState}
-use Rattle.circus_world.specs.declared.sent.Sent.{Sent}
+use Rattle.circus_world.specs.Sent.{Sent}
 
 -- a node in the world
 pub record Standing (M : Type 0) : Type 0 where

@@ -6,7 +6,7 @@ ghost use Rattle.circus_node.specs.Booting.{AreOfTroupes};
 ghost use Rattle.circus_performing.specs.Record.{behaviour};
 ghost use Rattle.circus_node.specs.Alike.{declared_of, turn_of, first_of};
 ghost use Rattle.circus_schedule.specs.declared.line.Line.{Line};
-ghost use Rattle.circus_world.specs.declared.sent.Sent.{Sent};
+ghost use Rattle.circus_world.specs.Sent.{Sent};
 ghost use Rattle.circus_world.specs.WorldState.{WorldState};
 ghost use Rattle.circus_world.specs.Legal.{refusal};
 ghost use Rattle.circus_world.specs.Course.{step_line};

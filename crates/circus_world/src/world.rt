@@ -18,12 +18,13 @@ ghost use Rattle.circus_world.specs.declared.slot.Slot.{Slot as SlotOf};
 
 use crate::legal::is_spare;
 use crate::slot::Slot;
-use crate::{Line, LineCause, Sent, SentList};
+use crate::{Line, LineCause, SentList};
+use bytes::Bytes;
 use circus_collate::{Deployment, Views};
 use circus_model::Module;
 use circus_node::{Event, Gives, NodeCore, StepFault};
 use circus_record::MemberRecord;
-use circus_value::{Duplicate, ListOf, NoMemory};
+use circus_value::NoMemory;
 use std::alloc::{AllocError, Global};
 use std::marker::Model;
 use thiserror::Error;
@@ -115,7 +116,7 @@ impl<M: Module> World<M> {
         ensures { IsBooted M.declared M.turn M.first deployment modules.items result }
     {
         let mut slots = Vec::new(alloc);
-        let mut sent = ListOf::new(alloc);
+        let mut sent = SentList::new(alloc);
         boot_all(
             alloc,
             &deployment,
@@ -299,7 +300,7 @@ impl<M: Module> World<M> {
         if self.crashed(to).is_some() {
             return Ok(self.pass());
         }
-        let bytes = sent.bytes.copy()?;
+        let bytes = Bytes::copy_from_slice(*self.slots.allocator(), sent.bytes)?;
         self.comes_to(to, Event::Datagram(from, bytes))
     }
 
@@ -495,12 +496,7 @@ fn send(step: u64, node: u16, gives: Gives, sent: &mut SentList) -> Result<(), N
     ensures { OnOk result (sent.new ≡ sent.old ++ map (course.sent_by step node) gives) }
 {
     for give in gives.into_items() {
-        sent.push(Sent {
-            step,
-            from: node,
-            to: give.to,
-            bytes: give.bytes.share()?,
-        })?;
+        sent.push(step, node, give.to, give.bytes.as_slice())?;
     }
     Ok(())
 }

@@ -32,7 +32,7 @@ use Rattle.circus_schedule.specs.declared.line.Line.{Line}
 use Rattle.circus_schedule.specs.declared.line.Line.TheVariants.{Deliver, Tick, Crash, Down, Join}
 use Rattle.circus_node.specs.Alike.{declared_of, turn_of, first_of, member_as, acting_as, node_as}
 use Rattle.circus_node.proofs.MembersAlike.{stepped_as, booted_as}
-use Rattle.circus_world.specs.declared.sent.Sent.{Sent}
+use Rattle.circus_world.specs.Sent.{Sent}
 use Rattle.circus_world.specs.WorldState.{WorldState, Standing}
 use Rattle.circus_world.specs.Alike.{standing_as, world_as, step_as}
 use Rattle.circus_world.specs.Course.{Stepped, step_line}

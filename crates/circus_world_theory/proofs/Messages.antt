@@ -22,7 +22,7 @@ use Rattle.circus_wire.specs.WireActs.{WireActs, purpose_of}
 use Rattle.circus_wire.specs.WireStanding.{pair_of}
 use Rattle.circus_wire.proofs.Performing.{came_tells}
 use Rattle.circus_member_rules.specs.declared.occurrence.Purpose.{Purpose}
-use Rattle.circus_world.specs.declared.sent.Sent.{Sent}
+use Rattle.circus_world.specs.Sent.{Sent}
 use Rattle.circus_world.specs.WorldState.{WorldState, Standing}
 use Rattle.circus_world.proofs.ComeLemmas.{datagram_may_come, goes_there}
 use Rattle.circus_world.proofs.SlotLemmas.{all_at}

@@ -27,7 +27,7 @@ use Rattle.circus_node.specs.declared.event.Event.TheVariants as comes
 use Rattle.circus_node.specs.NodeState.{Acting, member, ringmaster, member_record}
 use Rattle.circus_schedule.specs.declared.line.Line.{Line}
 use Rattle.circus_schedule.specs.declared.line.Line.TheVariants.{Deliver, Tick, Crash, Down, Join}
-use Rattle.circus_world.specs.declared.sent.Sent.{Sent}
+use Rattle.circus_world.specs.Sent.{Sent}
 use Rattle.circus_world.specs.WorldState.{WorldState, Standing, is_live}
 use Rattle.circus_world_theory.specs.Histories.{beginning_of, acts_of, comes_by, delivery}
 use Rattle.circus_world_theory.proofs.Boots.{world_stands}

@@ -27,7 +27,7 @@ use Rattle.circus_node.specs.declared.event.Event.TheVariants as comes
 use Rattle.circus_node.specs.declared.event.Outputs.{Outputs}
 use Rattle.circus_node.specs.NodeState.{NodeState}
 use Rattle.circus_node.specs.Step as node_step
-use Rattle.circus_world.specs.declared.sent.Sent.{Sent}
+use Rattle.circus_world.specs.Sent.{Sent}
 use Rattle.circus_world.specs.WorldState.{WorldState, Standing}
 use Rattle.circus_world.specs.Course as course
 use Rattle.circus_world.specs.Course.{Stepped, note_at, pass_step, crash_node, told_to_join, conclude_step, comes_to, step_line}

@@ -13,7 +13,7 @@ ghost use Rattle.circus_wire.specs.declared.delivery.Heard.TheVariants.{Called, 
 ghost use Rattle.circus_member_rules.specs.declared.occurrence.Purpose.{Purpose};
 ghost use Rattle.circus_node.specs.Booting.{AreOfTroupes};
 ghost use Rattle.circus_schedule.specs.declared.line.Line.{Line};
-ghost use Rattle.circus_world.specs.declared.sent.Sent.{Sent};
+ghost use Rattle.circus_world.specs.Sent.{Sent};
 ghost use Rattle.circus_world.specs.WorldState.{WorldState, Standing};
 ghost use Rattle.circus_world.specs.Boot.{before_any, all_booted, AreHosted};
 ghost use Rattle.circus_world.specs.Lines.{Lead};

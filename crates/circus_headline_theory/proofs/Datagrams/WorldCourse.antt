@@ -23,7 +23,7 @@ use Rattle.circus_node.specs.NodeState.{NodeState}
 use Rattle.circus_node.specs.Step as node_step
 use Rattle.circus_schedule.specs.declared.line.Line.{Line}
 use Rattle.circus_schedule.specs.declared.line.Line.TheVariants.{Deliver, Tick, Crash, Down, Join}
-use Rattle.circus_world.specs.declared.sent.Sent.{Sent}
+use Rattle.circus_world.specs.Sent.{Sent}
 use Rattle.circus_world.specs.WorldState.{WorldState, Standing, is_live}
 use Rattle.circus_world.specs.Course.{Stepped, note_at, pass_step, told_to_join, comes_to, conclude_step}
 use Rattle.circus_world.specs.Lines.{Leads, Lead}

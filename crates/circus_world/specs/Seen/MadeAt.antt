@@ -11,7 +11,7 @@ use Rattle.circus_node.specs.declared.event.Outputs.{Outputs}
 use Rattle.circus_node.specs.NodeState.{NodeState}
 use Rattle.circus_node.specs.Step.{step_node}
 use Rattle.circus_node.specs.Booting.{boot_node, IsHosted}
-use Rattle.circus_world.specs.declared.sent.Sent.{Sent}
+use Rattle.circus_world.specs.Sent.{Sent}
 use Rattle.circus_world.specs.declared.slot.Slot.{Slot}
 use Rattle.circus_world.specs.declared.world.BootFault.{BootFault}
 use Rattle.circus_world.specs.declared.world.BootFault.TheVariants as boot_fault

@@ -24,7 +24,7 @@ use Rattle.circus_node.specs.Booting.{AreOfTroupes, boot_node}
 use Rattle.circus_node.specs.Step as node_step
 use Rattle.circus_schedule.specs.declared.line.Line.{Line}
 use Rattle.circus_schedule.specs.declared.line.Line.TheVariants.{Deliver, Tick, Crash, Down, Join}
-use Rattle.circus_world.specs.declared.sent.Sent.{Sent}
+use Rattle.circus_world.specs.Sent.{Sent}
 use Rattle.circus_world.specs.declared.cause.LineCause.{LineCause}
 use Rattle.circus_world.specs.declared.cause.LineCause.TheVariants.{NoDatagram}
 use Rattle.circus_world.specs.WorldState.{WorldState, Standing, is_live}

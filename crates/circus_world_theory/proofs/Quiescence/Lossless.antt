@@ -32,7 +32,7 @@ use Rattle.circus_node.specs.Booting.{AreOfTroupes, fresh_wire, home_of, made_at
 use Rattle.circus_node.specs.Sending.{is_sendable}
 use Rattle.circus_schedule.specs.declared.line.Line.{Line}
 use Rattle.circus_schedule.specs.declared.line.Line.TheVariants.{Deliver}
-use Rattle.circus_world.specs.declared.sent.Sent.{Sent}
+use Rattle.circus_world.specs.Sent.{Sent}
 use Rattle.circus_world.specs.WorldState.{WorldState}
 use Rattle.circus_world.specs.Course as course
 use Rattle.circus_world.specs.Boot.{before_any, all_booted, AreHosted}

@@ -20,13 +20,13 @@ returns-clause-put g c =
     ap (λ p. names_of p.0 p.1) c.new-names.ensures ∙ ap (λ h. names_of h c.as_slice.result.now) hosts_are ∙ ap (names_of w.deployment.nodes) c.as_slice.ensures in
     let columns = c.in_ok-columns.columns in
     let scene : Scene =
-    record { names = own; procedures = c.as_slice-2.result.now; width = columns.width; crashes = columns.crashes; sent = c.as_slice-3.result.now } in
+    record { names = own; procedures = c.as_slice-2.result.now; width = columns.width; crashes = columns.crashes; sent = c.sent-2.result.now } in
     let left = c.in_ok-left_below.field-0 in
     let left_is : left ≡ left_below lines (length w.sent) =
     c.in_ok-left_below.ensures ∙ ap (left_below lines) (c.len.ensures ∙ ap length c.sent.ensures) in
     subst (λ (text : List ℕ). IsPut text (g.K.Sink.written c.args.sink.now) (g.K.Sink.written c.put_parts.new.sink) c.put_parts.result)
     (picture-is names procedures w lines scene hosts left
-    (scene-is names procedures w own c.as_slice-2.result.now columns.width columns.crashes c.as_slice-3.result.now
-    named c.as_slice-2.ensures c.in_ok-columns.ensures.width c.in_ok-columns.ensures.crashes (c.as_slice-3.ensures ∙ c.sent-2.ensures))
+    (scene-is names procedures w own c.as_slice-2.result.now columns.width columns.crashes c.sent-2.result.now
+    named c.as_slice-2.ensures c.in_ok-columns.ensures.width c.in_ok-columns.ensures.crashes c.sent-2.ensures)
     hosts_are left_is)
     (c.put_parts.ensures.put (deeds_of 0 w.nodes) c.in_ok-deeds_of.ensures)

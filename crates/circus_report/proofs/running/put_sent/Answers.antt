@@ -1,7 +1,9 @@
-use Rattle.std.proofs.Common.{◌≡◌, ◌≤◌, ◌+◌, List, [], ◌++◌, length, drop, sym, ap, subst, ◌∙◌, arith}
+use Rattle.std.proofs.Common.{◌≡◌, ◌<◌, ◌≤◌, ◌+◌, List, [], ◌++◌, length, drop, sym, ap, subst, ◌∙◌, arith}
+use Rattle.std.proofs.lemmas.Option.{get_or_from_slice_get}
 use Rattle.circus_collate.specs.declared.deployment.Host.{Host}
 use Rattle.circus_record.specs.Naming.{names_of}
-use Rattle.circus_world.specs.declared.sent.Sent.{Sent}
+use Rattle.circus_world.specs.Sent.{Sent}
+use Rattle.circus_world.specs.Seen.Entries.{sent_as}
 use Rattle.circus_report.specs.Report.{sent_line, sent_lines}
 use Rattle.circus_report.specs.Writing.{Writes, WritesPart}
 use Rattle.circus_report.specs.Run.{sent_from}
@@ -16,8 +18,8 @@ returns-in_err-append_sent-clause-put g c =
     let w = c.args.world.now in
     let names = names_of w.deployment.nodes [] in
     let from = c.args.from in
-    let all = c.as_slice-sent.result.now in
-    let all_is : all ≡ w.sent = c.as_slice-sent.ensures ∙ c.sent.ensures in
+    let all = c.sent-sent.result.now in
+    let all_is : all ≡ w.sent = c.sent-sent.ensures in
     let old = g.K.Sink.written c.args.sink.now in
     let new = g.K.Sink.written c.loop-number.sink in
     let number = c.loop-number.number in
@@ -30,20 +32,21 @@ returns-in_err-put_line-clause-put g c =
     let w = c.args.world.now in
     let names = names_of w.deployment.nodes [] in
     let from = c.args.from in
-    let all = c.as_slice-sent.result.now in
-    let all_is : all ≡ w.sent = c.as_slice-sent.ensures ∙ c.sent.ensures in
+    let all = c.sent-sent.result.now in
+    let all_is : all ≡ w.sent = c.sent-sent.ensures in
     let old = g.K.Sink.written c.args.sink.now in
     let middle = g.K.Sink.written c.loop-number.sink in
     let new = g.K.Sink.written c.put_line.new.sink in
     let number = c.loop-number.number in
-    let sent : Sent = c.index-sent-number.result in
+    let sent : Sent = sent_as c.at.result in
+    let below : number < length all = omega (arith, c.loop-number-test.true, c.len-number-end.ensures) in
     let hosts : List Host = c.as_slice-nodes.result.now in
     let hosts_are : hosts ≡ c.args.world.now.deployment.nodes = c.as_slice-nodes.ensures ∙ ap (λ d. d.nodes) c.deployment.ensures.value in
     let line = c.as_slice.result.now in
     let line_is : line ≡ sent_line names number sent =
     added_alone line _ _ (sent_line (names_of hosts []) number sent) c.as_slice.ensures.value c.in_ok-append_sent.ensures c.clear.ensures.items
     ∙ ap (λ (hs : List Host). sent_line (names_of hs []) number sent) hosts_are in
-    let more = lines_before-more names from all number sent c.loop-number.auto.number c.loop-number-test.true c.index-sent-number.is in
+    let more = lines_before-more names from all number sent c.loop-number.auto.number below (sym (get_or_from_slice_get all number sent sent c.at.ensures)) in
     let part : WritesPart old new (lines_before names from all number ++ line) =
     WritesPart-joined old middle new (lines_before names from all number) line c.loop-number.invariant.written c.in_err-put_line.ensures.part in
     let next : WritesPart old new (lines_before names from all (number + 1)) =
@@ -56,19 +59,20 @@ pub loop-number-preserved : goal.loop-number-preserved
 loop-number-preserved g c =
     let names = names_of c.args.world.now.deployment.nodes [] in
     let from = c.args.from in
-    let all = c.as_slice-sent.result.now in
+    let all = c.sent-sent.result.now in
     let old = g.K.Sink.written c.args.sink.now in
     let middle = g.K.Sink.written c.loop-number.sink in
     let new = g.K.Sink.written c.put_line.new.sink in
     let number = c.loop-number.number in
-    let sent : Sent = c.index-sent-number.result in
+    let sent : Sent = sent_as c.at.result in
+    let below : number < length all = omega (arith, c.loop-number-test.true, c.len-number-end.ensures) in
     let hosts : List Host = c.as_slice-nodes.result.now in
     let hosts_are : hosts ≡ c.args.world.now.deployment.nodes = c.as_slice-nodes.ensures ∙ ap (λ d. d.nodes) c.deployment.ensures.value in
     let line = c.as_slice.result.now in
     let line_is : line ≡ sent_line names number sent =
     added_alone line _ _ (sent_line (names_of hosts []) number sent) c.as_slice.ensures.value c.in_ok-append_sent.ensures c.clear.ensures.items
     ∙ ap (λ (hs : List Host). sent_line (names_of hs []) number sent) hosts_are in
-    let more = lines_before-more names from all number sent c.loop-number.auto.number c.loop-number-test.true c.index-sent-number.is in
+    let more = lines_before-more names from all number sent c.loop-number.auto.number below (sym (get_or_from_slice_get all number sent sent c.at.ensures)) in
     record {
       written =
           subst (Writes old new) (ap (λ l. lines_before names from all number ++ l) line_is ∙ sym more)
@@ -81,11 +85,11 @@ returns-clause-put g c =
     let w = c.args.world.now in
     let names = names_of w.deployment.nodes [] in
     let from = c.args.from in
-    let all = c.as_slice-sent.result.now in
-    let all_is : all ≡ w.sent = c.as_slice-sent.ensures ∙ c.sent.ensures in
+    let all = c.sent-sent.result.now in
+    let all_is : all ≡ w.sent = c.sent-sent.ensures in
     let old = g.K.Sink.written c.args.sink.now in
     let new = g.K.Sink.written c.loop-number.sink in
-    let within : from ≤ length all = omega (arith, c.requires, ap length all_is) in
-    let end : c.loop-number.number ≡ length all = omega (arith, c.loop-number-test.false, c.loop-number.auto.number-end within) in
+    let within : from ≤ c.len-number-end.result = omega (arith, c.requires, ap length all_is, c.len-number-end.ensures) in
+    let end : c.loop-number.number ≡ length all = omega (arith, c.loop-number-test.false, c.loop-number.auto.number-end within, c.len-number-end.ensures) in
     subst (λ (l : List Sent). Writes old new (sent_lines names from (drop from l))) all_is
     (subst (Writes old new) (ap (lines_before names from all) end ∙ lines_before-all names from all) c.loop-number.invariant.written)
