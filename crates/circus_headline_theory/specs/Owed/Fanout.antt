@@ -1,6 +1,6 @@
 -- One call to many, over all that happens to it: what became of the last call to each node, whom a call is owed, and when it
 -- is closed.
-use Rattle.std.specs.Prelude.{◌≡◌, ℕ, ◌==◌, ◌<◌, ◌≤◌, ◌⊎◌, Bool, true, false, ◌||◌, if◌then◌else◌, List, [], ◌∷◌, ◌++◌, map, slice_get, Some}
+use Rattle.std.specs.Prelude.{◌≡◌, ℕ, ◌==◌, ◌<◌, ◌≤◌, Bool, true, false, ◌||◌, if◌then◌else◌, List, [], ◌∷◌, ◌++◌, map, slice_get, Some}
 use Rattle.std.specs.List.{list_all}
 use Rattle.circus_value.specs.Among.{is_among}
 use Rattle.circus_header.specs.declared.call.CallHeader.{CallHeader}
