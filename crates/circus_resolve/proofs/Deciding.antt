@@ -1,11 +1,13 @@
 -- Shapes are the same exactly where they are equal.
-use Rattle.std.proofs.Common.{◌≡◌, Bool, true, false, ◌&&◌, ◌==◌, bytes_eq, List, [], ◌∷◌, refl}
+use Rattle.std.proofs.Common.{◌≡◌, Bool, true, false, ◌&&◌, ◌==◌, bytes_eq, List, [], ◌∷◌, refl, sym, ap, ◌∙◌}
 use Rattle.std.specs.Bool.{Decides}
 use Rattle.std.proofs.lemmas.Bool.{false≢true}
-use Rattle.std.proofs.lemmas.Bool.Decides.{Decides-and, Decides-eqb}
+use Rattle.std.proofs.lemmas.Bool.Decides.{Decides-and, Decides-eqb, same_from_decides}
 use Rattle.std.proofs.lemmas.Slice.Eq.{bytes_eq-Decides}
 use Rattle.circus_value.specs.declared.shape.Label.{Label}
-use Rattle.circus_value.specs.ShapeTree.{ShapeTree, FieldTrees, ArmTrees, boolean, cardinal, long_cardinal, integer, long_integer, text, enumeration, array, sequence, «record», choice, no_fields, more_fields, no_arms, more_arms}
+use Rattle.circus_value.specs.ShapeTree.{ShapeTree, FieldTrees, ArmTrees, FieldTree, ArmTree, field_trees, arm_trees, boolean, cardinal, long_cardinal, integer, long_integer, text, enumeration, array, sequence, «record», choice, no_fields, more_fields, no_arms, more_arms}
+use Rattle.circus_value.specs.ShapeOf.{fields_in, arms_in}
+use Rattle.circus_value.proofs.ShapeBack.{fields_back, arms_back}
 use Rattle.circus_resolve.specs.Same.{labels_eq, shape_eq, fields_eq, arms_eq}
 
 -- what decides one thing decides what is the same
@@ -58,3 +60,17 @@ mutual
       (Decides-and (bytes_eq n m && (a == b) && shape_eq s t) (arms_eq xs ys)
       (Decides-and (bytes_eq n m && (a == b)) (shape_eq s t) (Decides-and (bytes_eq n m) (a == b) (bytes_eq-Decides n m) (Decides-eqb a b)) (shapes_decide s t)) (arms_decide xs ys))
   arms_decide _ _ = apart (λ e. cc)
+
+-- whatever decides whether lists are equal says what is the same
+pub labels_agree : (ls ms : List Label) (like : Bool) → Decides like (ls ≡ ms) → like ≡ labels_eq ls ms
+labels_agree ls ms like decides = same_from_decides like (labels_eq ls ms) decides (labels_decide ls ms)
+
+pub fields_agree : (fs gs : List FieldTree) (like : Bool) → Decides like (fs ≡ gs) → like ≡ fields_eq (field_trees fs) (field_trees gs)
+fields_agree fs gs like decides =
+    same_from_decides like (fields_eq (field_trees fs) (field_trees gs))
+    (through like (λ e. ap field_trees e) (λ e. sym (fields_back fs) ∙ ap fields_in e ∙ fields_back gs) decides) (fields_decide (field_trees fs) (field_trees gs))
+
+pub arms_agree : (xs ys : List ArmTree) (like : Bool) → Decides like (xs ≡ ys) → like ≡ arms_eq (arm_trees xs) (arm_trees ys)
+arms_agree xs ys like decides =
+    same_from_decides like (arms_eq (arm_trees xs) (arm_trees ys))
+    (through like (λ e. ap arm_trees e) (λ e. sym (arms_back xs) ∙ ap arms_in e ∙ arms_back ys) decides) (arms_decide (arm_trees xs) (arm_trees ys))

@@ -31,6 +31,9 @@ pub fn is_same(one: &Shape, other: &Shape) -> bool
 fn are_labels(some: &Labels, others: &Labels) -> bool
     ensures { result ≡ labels_eq some.now others.now }
 {
+    if let Some(like) = some.is_like(others) {
+        return like;
+    }
     if some.len() != others.len() {
         return false;
     }
@@ -48,6 +51,9 @@ fn are_labels(some: &Labels, others: &Labels) -> bool
 fn are_fields(some: &Fields, others: &Fields) -> bool
     ensures { result ≡ fields_eq (field_trees some.now) (field_trees others.now) }
 {
+    if let Some(like) = some.is_like(others) {
+        return like;
+    }
     if some.len() != others.len() {
         return false;
     }
@@ -65,6 +71,9 @@ fn are_fields(some: &Fields, others: &Fields) -> bool
 fn are_arms(some: &Arms, others: &Arms) -> bool
     ensures { result ≡ arms_eq (arm_trees some.now) (arm_trees others.now) }
 {
+    if let Some(like) = some.is_like(others) {
+        return like;
+    }
     if some.len() != others.len() {
         return false;
     }

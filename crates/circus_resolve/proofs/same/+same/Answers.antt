@@ -2,8 +2,15 @@ use Rattle.std.proofs.Common.{sym, ap, ◌∙◌, arith}
 use Rattle.circus_value.specs.ShapeTree.{field_trees, arm_trees}
 use Rattle.circus_value.specs.Seen.ShapeWeight.{field_weights, arm_weights}
 use Rattle.circus_value.proofs.ShapeItems.{field_falls, arm_falls}
+use Rattle.circus_resolve.proofs.Deciding.{fields_agree, arms_agree}
 use Rattle.circus_resolve.proofs.Shapes.{fields_differ, arms_differ}
 use Rattle.circus_resolve.proofs.same.+same.Goals as goal
+
+pub are_fields-returns-in-Some : goal.are_fields-returns-in-Some
+are_fields-returns-in-Some t c = fields_agree c.args.some.now c.args.others.now c.in-Some.like c.in-Some.ensures
+
+pub are_arms-returns-in-Some : goal.are_arms-returns-in-Some
+are_arms-returns-in-Some t c = arms_agree c.args.some.now c.args.others.now c.in-Some.like c.in-Some.ensures
 
 pub are_fields-returns-then-len : goal.are_fields-returns-then-len
 are_fields-returns-then-len t c = sym (fields_differ c.args.some.now c.args.others.now (λ same. c.if-len.true (c.len.ensures ∙ same ∙ sym c.len-2.ensures)))
