@@ -1,10 +1,11 @@
 //! The values of Circus, the shapes that they fit, and the lists that all crates share.
 //!
-//! `list_of` has the one list type, `value` and `shape` the two trees, `outcome` what a procedure ends with, `caller` who
-//! made a call. `among` looks for a number in a list and `name_index` for a name, `duplicate` has the copies of plain data
-//! and `equality` what is equal. `fitting` tests a value against a shape, `size` counts a value's bytes in external form,
-//! `parts` has bytes that are shared in parts, `tail` those behind the first part, and `shown` and `thread_text` the texts
-//! of values, outcomes, clocks and paths.
+//! `list_of` has the one list type, `value` and `shape` the two trees, `outcome` what a procedure ends with, `caller`
+//! who made a call. `among` looks for a number in a list and `name_index` for a name, `words` spells the lists of a
+//! shape so that two are compared at once, `duplicate` has the copies of plain data and `equality` what is equal.
+//! `fitting` tests a value against a shape, `size` counts a value's bytes in external form, `parts` has bytes that are
+//! shared in parts, `tail` those behind the first part, and `shown` and `thread_text` the texts of values, outcomes,
+//! clocks and paths.
 #![tactic(auto)]
 
 mod among;
