@@ -4,7 +4,7 @@ pub mod Octets
 pub mod ShapeBack
 pub mod ShapeItems
 mod NameItems
-pub mod ShapeWords
+mod ShapeWords
 mod ItemFalls
 mod SizeLemmas
 mod ShownMore

@@ -4,14 +4,15 @@ use Rattle.std.specs.Bool.{Decides}
 use Rattle.std.proofs.lemmas.Bool.{false≢true}
 use Rattle.circus_value.specs.declared.shape.Label.{Label}
 use Rattle.circus_value.specs.ShapeOf.{fields_in, arms_in}
-use Rattle.circus_value.proofs.ShapeBack.{fields_back, arms_back}
 use Rattle.circus_value.specs.ShapeTree.{ShapeTree, FieldTrees, ArmTrees, FieldTree, ArmTree, field_trees, arm_trees, boolean, cardinal, long_cardinal, integer, long_integer, text, enumeration, array, sequence, «record», choice, no_fields, more_fields, no_arms, more_arms}
 use Rattle.circus_value.specs.Seen.ShapeWords.{AreWords, name_words, label_words, shape_words, field_words, arm_words}
+use Rattle.circus_value.proofs.ShapeBack.{fields_back, arms_back}
 
 -- behind words joined as one, those of the first part and the others
 joined : (us vs r xs ys q : List ℕ) → (us ++ vs) ++ r ≡ (xs ++ ys) ++ q → us ++ (vs ++ r) ≡ xs ++ (ys ++ q)
 joined us vs r xs ys q e = sym (append_assoc us vs r) ∙ e ∙ append_assoc xs ys q
 
+-- words with others behind them tell what they spell and the others
 names_read : (ms ns r q : List ℕ) → name_words ms ++ r ≡ name_words ns ++ q → (ms ≡ ns) × (r ≡ q)
 names_read [] [] r q e = (refl, cc)
 names_read [] (n ∷ ns) r q e = let differ : 0 ≡ n + 1 = cc in absurd (omega (arith, differ))
@@ -77,6 +78,7 @@ mutual
       ((λ i. more_arms (name.0 i) (number i) (shape.0 i) (later.0 i)), later.1)
   arms_read _ _ r q e = absurd cc
 
+-- words alone
 pub labels_told : (ls ms : List Label) → label_words ls ≡ label_words ms → ls ≡ ms
 labels_told ls ms e = (labels_read ls ms [] [] (ap (λ ws. ws ++ []) e)).0
 
