@@ -23,4 +23,4 @@ pub use one_file::{OneFile, end_of};
 pub use refused::plan_of;
 pub use spending::end_of_spent;
 pub use status::Status;
-pub use text::{HistoryText, show_history};
+pub use text::show_history;

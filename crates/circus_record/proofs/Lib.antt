@@ -1,1 +1,3 @@
 pub mod LinesMore
+pub mod NamesOf
+pub mod Pieces

@@ -1,24 +1,12 @@
-// The lines of runs and asks, with the step in which each came or without it (docs/FORMATS.md, "Report").
-ghost use Rattle.std.specs.Prelude.{Some};
-ghost use Rattle.circus_record.specs.Line.{step_text, run_head, run_rest, run_line, ask_head, ask_rest, ask_line, reply_line, end_head, end_rest, end_line};
+// The lines of runs and asks, with the step in which each came or without it, as they are added to a text (docs/FORMATS.md,
+// "Report").
+ghost use Rattle.std.specs.Prelude.{◌≡◌, ◌++◌, OnOk, string_bytes};
+ghost use Rattle.circus_record.specs.Line.{run_head, run_rest, run_line, ask_head, ask_rest, ask_line, reply_line, end_head, end_rest, end_line};
 
-use circus_value::{Clock, ClockText, Outcome, Path, PathText, State, Values};
-use std::fmt;
-
-// The step, where it is told.
-#[derive(Clone, Copy)]
-struct StepText(Option<u64>);
-
-impl fmt::Display for StepText {
-    ghost output = { λ text. Some (step_text text.0) };
-
-    fn fmt<W: fmt::Write>(&self, f: &mut fmt::Formatter<W>) -> fmt::Result {
-        match self.0 {
-            Some(step) => write!(f, " step {step}"),
-            None => Ok(()),
-        }
-    }
-}
+use crate::append::{
+    append_clock, append_number, append_outcome, append_path, append_step, append_values,
+};
+use circus_value::{Clock, NoMemory, Outcome, Path, State, Values};
 
 /// The entry of a run, with its newline.
 #[derive(Clone, Copy)]
@@ -33,49 +21,36 @@ pub struct RunLine<'a> {
     pub arguments: &'a Values,
 }
 
-// Where a run is entered, and on which path.
-#[derive(Clone, Copy)]
-struct RunHead<'a>(RunLine<'a>);
-
-// What is performed.
-#[derive(Clone, Copy)]
-struct RunRest<'a>(RunLine<'a>);
-
-impl fmt::Display for RunHead<'_> {
-    ghost output = { λ l. Some (run_head l.0.place l.0.step l.0.root.now l.0.path.now) };
-
-    fn fmt<W: fmt::Write>(&self, f: &mut fmt::Formatter<W>) -> fmt::Result {
-        let place = self.0.place;
-        let step = StepText(self.0.step);
-        let path = PathText {
-            root: self.0.root,
-            asks: self.0.path,
-        };
-        write!(f, "run {place}{step} path {path}")
+impl RunLine<'_> {
+    /// Adds the line to a text. `NoMemory` is the one fault.
+    pub fn append_to(&self, text: &mut String) -> Result<(), NoMemory>
+        ensures { OnOk result (string_bytes text.new ≡ string_bytes text.old
+            ++ run_line self.now.place self.now.step self.now.root.now self.now.path.now
+            self.now.procedure self.now.entry.now self.now.arguments.now) }
+    {
+        self.append_head(text)?;
+        self.append_rest(text)
     }
-}
 
-impl fmt::Display for RunRest<'_> {
-    ghost output = { λ l. Some (run_rest l.0.procedure l.0.entry.now l.0.arguments.now) };
-
-    fn fmt<W: fmt::Write>(&self, f: &mut fmt::Formatter<W>) -> fmt::Result {
-        let procedure = self.0.procedure;
-        let clock = ClockText(self.0.entry);
-        let arguments = self.0.arguments;
-        writeln!(
-            f,
-            " procedure {procedure} clock {clock} arguments {arguments}"
-        )
+    // Adds where a run is entered, and on which path.
+    fn append_head(&self, text: &mut String) -> Result<(), NoMemory>
+        ensures { OnOk result (string_bytes text.new ≡ string_bytes text.old
+            ++ run_head self.now.place self.now.step self.now.root.now self.now.path.now) }
+    {
+        append_number(text, "run ", self.place)?;
+        append_step(text, self.step)?;
+        append_path(text, " path ", self.root, self.path)
     }
-}
 
-impl fmt::Display for RunLine<'_> {
-    ghost output = { λ l. Some (run_line l.place l.step l.root.now l.path.now l.procedure l.entry.now l.arguments.now) };
-
-    fn fmt<W: fmt::Write>(&self, f: &mut fmt::Formatter<W>) -> fmt::Result {
-        let head = RunHead(*self);
-        let rest = RunRest(*self);
-        write!(f, "{head}{rest}")
+    // Adds what is performed.
+    fn append_rest(&self, text: &mut String) -> Result<(), NoMemory>
+        ensures { OnOk result (string_bytes text.new ≡ string_bytes text.old
+            ++ run_rest self.now.procedure self.now.entry.now self.now.arguments.now) }
+    {
+        append_number(text, " procedure ", self.procedure)?;
+        append_clock(text, " clock ", self.entry)?;
+        append_values(text, " arguments ", self.arguments)?;
+        text.push_str("\n")
     }
 }
 
@@ -93,47 +68,38 @@ pub struct AskLine<'a> {
     pub state: &'a State,
 }
 
-// Whom an ask asks.
-#[derive(Clone, Copy)]
-struct AskHead<'a>(AskLine<'a>);
-
-// What it asks for.
-#[derive(Clone, Copy)]
-struct AskRest<'a>(AskLine<'a>);
-
-impl fmt::Display for AskHead<'_> {
-    ghost output = { λ l. Some (ask_head l.0.number l.0.step l.0.callee.now l.0.index) };
-
-    fn fmt<W: fmt::Write>(&self, f: &mut fmt::Formatter<W>) -> fmt::Result {
-        let number = self.0.number;
-        let step = StepText(self.0.step);
-        let callee = self.0.callee;
-        let index = self.0.index;
-        write!(f, "ask {number}{step} to {callee} index {index}")
+impl AskLine<'_> {
+    /// Adds the line to a text. `NoMemory` is the one fault.
+    pub fn append_to(&self, text: &mut String) -> Result<(), NoMemory>
+        ensures { OnOk result (string_bytes text.new ≡ string_bytes text.old
+            ++ ask_line self.now.number self.now.step self.now.callee.now self.now.index
+            self.now.procedure self.now.arguments.now self.now.state.now) }
+    {
+        self.append_head(text)?;
+        self.append_rest(text)
     }
-}
 
-impl fmt::Display for AskRest<'_> {
-    ghost output = { λ l. Some (ask_rest l.0.procedure l.0.arguments.now l.0.state.now) };
-
-    fn fmt<W: fmt::Write>(&self, f: &mut fmt::Formatter<W>) -> fmt::Result {
-        let procedure = self.0.procedure;
-        let arguments = self.0.arguments;
-        let state = self.0.state;
-        writeln!(
-            f,
-            " procedure {procedure} arguments {arguments} state {state}"
-        )
+    // Adds whom an ask asks.
+    fn append_head(&self, text: &mut String) -> Result<(), NoMemory>
+        ensures { OnOk result (string_bytes text.new ≡ string_bytes text.old
+            ++ ask_head self.now.number self.now.step self.now.callee.now self.now.index) }
+    {
+        append_number(text, "ask ", self.number)?;
+        append_step(text, self.step)?;
+        text.push_str(" to ")?;
+        text.push_str(self.callee)?;
+        append_number(text, " index ", self.index)
     }
-}
 
-impl fmt::Display for AskLine<'_> {
-    ghost output = { λ l. Some (ask_line l.number l.step l.callee.now l.index l.procedure l.arguments.now l.state.now) };
-
-    fn fmt<W: fmt::Write>(&self, f: &mut fmt::Formatter<W>) -> fmt::Result {
-        let head = AskHead(*self);
-        let rest = AskRest(*self);
-        write!(f, "{head}{rest}")
+    // Adds what it asks for.
+    fn append_rest(&self, text: &mut String) -> Result<(), NoMemory>
+        ensures { OnOk result (string_bytes text.new ≡ string_bytes text.old
+            ++ ask_rest self.now.procedure self.now.arguments.now self.now.state.now) }
+    {
+        append_number(text, " procedure ", self.procedure)?;
+        append_values(text, " arguments ", self.arguments)?;
+        append_values(text, " state ", self.state)?;
+        text.push_str("\n")
     }
 }
 
@@ -147,15 +113,17 @@ pub struct ReplyLine<'a> {
     pub reply: &'a Outcome,
 }
 
-impl fmt::Display for ReplyLine<'_> {
-    ghost output = { λ l. Some (reply_line l.number l.step l.after.now l.reply.now) };
-
-    fn fmt<W: fmt::Write>(&self, f: &mut fmt::Formatter<W>) -> fmt::Result {
-        let number = self.number;
-        let step = StepText(self.step);
-        let clock = ClockText(self.after);
-        let reply = self.reply;
-        writeln!(f, "reply {number}{step} clock {clock} {reply}")
+impl ReplyLine<'_> {
+    /// Adds the line to a text. `NoMemory` is the one fault.
+    pub fn append_to(&self, text: &mut String) -> Result<(), NoMemory>
+        ensures { OnOk result (string_bytes text.new ≡ string_bytes text.old
+            ++ reply_line self.now.number self.now.step self.now.after.now self.now.reply.now) }
+    {
+        append_number(text, "reply ", self.number)?;
+        append_step(text, self.step)?;
+        append_clock(text, " clock ", self.after)?;
+        append_outcome(text, " ", self.reply)?;
+        text.push_str("\n")
     }
 }
 
@@ -169,41 +137,34 @@ pub struct EndLine<'a> {
     pub state: &'a State,
 }
 
-// Where a run has ended.
-#[derive(Clone, Copy)]
-struct EndHead<'a>(EndLine<'a>);
-
-// How it has ended.
-#[derive(Clone, Copy)]
-struct EndRest<'a>(EndLine<'a>);
-
-impl fmt::Display for EndHead<'_> {
-    ghost output = { λ l. Some (end_head l.0.place l.0.step l.0.end.now) };
-
-    fn fmt<W: fmt::Write>(&self, f: &mut fmt::Formatter<W>) -> fmt::Result {
-        let place = self.0.place;
-        let step = StepText(self.0.step);
-        let clock = ClockText(self.0.end);
-        write!(f, "end {place}{step} clock {clock}")
+impl EndLine<'_> {
+    /// Adds the line to a text. `NoMemory` is the one fault.
+    pub fn append_to(&self, text: &mut String) -> Result<(), NoMemory>
+        ensures { OnOk result (string_bytes text.new ≡ string_bytes text.old
+            ++ end_line self.now.place self.now.step self.now.end.now self.now.outcome.now
+            self.now.state.now) }
+    {
+        self.append_head(text)?;
+        self.append_rest(text)
     }
-}
 
-impl fmt::Display for EndRest<'_> {
-    ghost output = { λ l. Some (end_rest l.0.outcome.now l.0.state.now) };
-
-    fn fmt<W: fmt::Write>(&self, f: &mut fmt::Formatter<W>) -> fmt::Result {
-        let outcome = self.0.outcome;
-        let state = self.0.state;
-        writeln!(f, " {outcome} state {state}")
+    // Adds where a run has ended.
+    fn append_head(&self, text: &mut String) -> Result<(), NoMemory>
+        ensures { OnOk result (string_bytes text.new ≡ string_bytes text.old
+            ++ end_head self.now.place self.now.step self.now.end.now) }
+    {
+        append_number(text, "end ", self.place)?;
+        append_step(text, self.step)?;
+        append_clock(text, " clock ", self.end)
     }
-}
 
-impl fmt::Display for EndLine<'_> {
-    ghost output = { λ l. Some (end_line l.place l.step l.end.now l.outcome.now l.state.now) };
-
-    fn fmt<W: fmt::Write>(&self, f: &mut fmt::Formatter<W>) -> fmt::Result {
-        let head = EndHead(*self);
-        let rest = EndRest(*self);
-        write!(f, "{head}{rest}")
+    // Adds how it has ended.
+    fn append_rest(&self, text: &mut String) -> Result<(), NoMemory>
+        ensures { OnOk result (string_bytes text.new ≡ string_bytes text.old
+            ++ end_rest self.now.outcome.now self.now.state.now) }
+    {
+        append_outcome(text, " ", self.outcome)?;
+        append_values(text, " state ", self.state)?;
+        text.push_str("\n")
     }
 }

@@ -1,10 +1,11 @@
 // What nodes and modules are called.
-ghost use Rattle.std.specs.Prelude.{◌≡◌, All, IsAscii};
+ghost use Rattle.std.specs.Prelude.{◌≡◌, [], All, IsAscii};
 ghost use Rattle.circus_record.specs.Naming.{Names, host_name, names_of};
 
 use circus_collate::Host;
 use circus_value::{Name, name_text};
 use std::marker::Model;
+use std::str;
 
 /// Names of nodes and modules by their numbers.
 pub trait Naming {
@@ -17,6 +18,16 @@ pub trait Naming {
     /// What a module and its troupe are called.
     fn troupe(&self, number: usize) -> &str
         ensures { result.now ≡ (names self.now).troupe number };
+}
+
+/// What a node is called, as bytes. A number that none has is called nothing. It takes no memory.
+pub fn node_name(nodes: &[Host], number: usize) -> &[u8]
+    ensures { result.now ≡ (names_of nodes.now []).node number }
+{
+    match nodes.get(number) {
+        Some(host) => host.name.as_slice(),
+        None => b"",
+    }
 }
 
 /// The names of a program's nodes and modules, which are ASCII. A number that none has is called nothing.
@@ -53,10 +64,7 @@ impl<'a> Naming for ProgramNames<'a> {
     ghost names = { λ p. names_of p.0 p.1 };
 
     fn node(&self, number: usize) -> &str {
-        match self.nodes.get(number) {
-            Some(host) => name_text(&host.name),
-            None => "",
-        }
+        ascii_text(node_name(self.nodes, number))
     }
 
     fn troupe(&self, number: usize) -> &str {
@@ -65,4 +73,12 @@ impl<'a> Naming for ProgramNames<'a> {
             None => "",
         }
     }
+}
+
+// Bytes as text.
+fn ascii_text(bytes: &[u8]) -> &str
+    requires { IsAscii bytes.now }
+    ensures { result.now ≡ bytes.now }
+{
+    str::from_utf8(bytes).unwrap()
 }

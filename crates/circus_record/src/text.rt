@@ -1,9 +1,12 @@
 // The lines of a member (docs/FORMATS.md, "Report").
-ghost use Rattle.std.specs.Prelude.{◌≡◌, ℕ, Some, All, IsAscii, IfOk, slice_get};
+ghost use Rattle.std.specs.Prelude.{◌≡◌, ◌++◌, ℕ, Some, All, IsAscii, IfOk, OnOk, codes, slice_get, string_bytes};
+ghost use Rattle.std.specs.Fmt.{decimal};
 ghost use Rattle.circus_collate.specs.declared.deployment.Host.{Host};
+ghost use Rattle.circus_record.specs.Line.{line};
 ghost use Rattle.circus_record.specs.Naming.{host_name, names_of};
-ghost use Rattle.circus_record.specs.MemberText.{IsHosted, status_text, answered_line, ask_lines, asks_lines, ended_line, run_lines, runs_lines, waiting_text, now_line, phase_lines, member_lines};
+ghost use Rattle.circus_record.specs.MemberText.{IsHosted, status_text, answered_line, ask_lines, asks_lines, ended_line, run_lines, runs_lines, waiting_text, now_text, now_line, phase_lines, member_lines};
 
+use crate::append::{append_number, append_values};
 use crate::line::{AskLine, EndLine, ReplyLine, RunLine};
 use crate::naming::{Naming, ProgramNames};
 use crate::record::{AskRecord, MemberRecord, RunRecord};
@@ -11,249 +14,6 @@ use circus_collate::Deployment;
 use circus_transfer::Joiner;
 use circus_value::{ListOf, Name, NoMemory, Octets};
 use std::alloc::Global;
-use std::fmt;
-
-// Whether the node is live, or the step of its crash.
-#[derive(Drop)]
-struct StatusText(Option<u64>);
-
-impl fmt::Display for StatusText {
-    ghost output = { λ text. Some (status_text text.0) };
-
-    fn fmt<W: fmt::Write>(&self, f: &mut fmt::Formatter<W>) -> fmt::Result {
-        match self.0 {
-            Some(step) => write!(f, "crashed {step}"),
-            None => f.write_str("live"),
-        }
-    }
-}
-
-// The reply to an ask that was answered.
-#[derive(Drop)]
-struct AnsweredText<'a> {
-    number: usize,
-    ask: &'a AskRecord,
-}
-
-impl fmt::Display for AnsweredText<'_> {
-    ghost output = { λ t. Some (answered_line t.number t.ask.now.reply t.ask.now.after t.ask.now.answered) };
-
-    fn fmt<W: fmt::Write>(&self, f: &mut fmt::Formatter<W>) -> fmt::Result {
-        let (Some(reply), Some(after)) = (&self.ask.reply, &self.ask.after) else {
-            return Ok(());
-        };
-        let line = ReplyLine {
-            number: self.number,
-            step: self.ask.answered,
-            after,
-            reply,
-        };
-        write!(f, "{line}")
-    }
-}
-
-// An ask with its reply.
-#[derive(Drop)]
-struct AskText<'a, N> {
-    names: &'a N,
-    number: usize,
-    ask: &'a AskRecord,
-}
-
-impl<N: Naming> fmt::Display for AskText<'_, N> {
-    ghost output = { λ t. Some (ask_lines (N.names t.names.now) t.number t.ask.now) };
-
-    fn fmt<W: fmt::Write>(&self, f: &mut fmt::Formatter<W>) -> fmt::Result {
-        let ask = self.ask;
-        let line = AskLine {
-            number: self.number,
-            step: Some(ask.asked),
-            callee: self.names.troupe(usize::from(ask.callee)),
-            index: ask.index,
-            procedure: ask.procedure,
-            arguments: &ask.arguments,
-            state: &ask.state,
-        };
-        let answered = AnsweredText {
-            number: self.number,
-            ask,
-        };
-        write!(f, "{line}{answered}")
-    }
-}
-
-// The asks of a run with their replies.
-#[derive(Drop)]
-struct AsksText<'a, N> {
-    names: &'a N,
-    asks: &'a [AskRecord],
-}
-
-impl<N: Naming> fmt::Display for AsksText<'_, N> {
-    ghost output = { λ t. Some (asks_lines (N.names t.names.now) 0 t.asks.now) };
-
-    fn fmt<W: fmt::Write>(&self, f: &mut fmt::Formatter<W>) -> fmt::Result {
-        let names = self.names;
-        for (number, ask) in self.asks.iter().enumerate() {
-            let lines = AskText { names, number, ask };
-            write!(f, "{lines}")?;
-        }
-        Ok(())
-    }
-}
-
-// The end of a run that has ended.
-#[derive(Drop)]
-struct EndedText<'a> {
-    place: u128,
-    run: &'a RunRecord,
-}
-
-impl fmt::Display for EndedText<'_> {
-    ghost output = { λ t. Some (ended_line t.place t.run.now.outcome t.run.now.state t.run.now.end t.run.now.ended) };
-
-    fn fmt<W: fmt::Write>(&self, f: &mut fmt::Formatter<W>) -> fmt::Result {
-        let run = self.run;
-        let (Some(outcome), Some(state), Some(end)) = (&run.outcome, &run.state, &run.end) else {
-            return Ok(());
-        };
-        let line = EndLine {
-            place: self.place,
-            step: run.ended,
-            end,
-            outcome,
-            state,
-        };
-        write!(f, "{line}")
-    }
-}
-
-/// A run with its asks, as lines.
-#[derive(Drop)]
-pub struct RunText<'a, N> {
-    pub names: &'a N,
-    pub place: u128,
-    pub run: &'a RunRecord,
-}
-
-impl<N: Naming> fmt::Display for RunText<'_, N> {
-    ghost output = { λ t. Some (run_lines (N.names t.names.now) t.place t.run.now) };
-
-    fn fmt<W: fmt::Write>(&self, f: &mut fmt::Formatter<W>) -> fmt::Result {
-        let run = self.run;
-        let place = self.place;
-        let line = RunLine {
-            place,
-            step: Some(run.started),
-            root: self.names.troupe(usize::from(run.root)),
-            path: &run.path,
-            procedure: run.procedure,
-            entry: &run.entry,
-            arguments: &run.arguments,
-        };
-        let asks = AsksText {
-            names: self.names,
-            asks: run.asks.as_slice(),
-        };
-        let ended = EndedText { place, run };
-        write!(f, "{line}{asks}{ended}")
-    }
-}
-
-// Runs with their asks, the first of which has this place.
-#[derive(Drop)]
-struct RunsText<'a, N> {
-    names: &'a N,
-    first: u32,
-    runs: &'a [RunRecord],
-}
-
-impl<N: Naming> fmt::Display for RunsText<'_, N> {
-    ghost output = { λ t. Some (runs_lines (N.names t.names.now) t.first t.runs.now) };
-
-    fn fmt<W: fmt::Write>(&self, f: &mut fmt::Formatter<W>) -> fmt::Result {
-        let names = self.names;
-        for (later, run) in self.runs.iter().enumerate() {
-            let place = u128::from(self.first) + later as u128;
-            let lines = RunText { names, place, run };
-            write!(f, "{lines}")?;
-        }
-        Ok(())
-    }
-}
-
-// What the last run waits for, if it hasn't ended.
-#[derive(Drop)]
-struct WaitingText<'a> {
-    run: &'a RunRecord,
-}
-
-impl fmt::Display for WaitingText<'_> {
-    ghost output = { λ t. Some (waiting_text t.run.now.outcome t.run.now.asks) };
-
-    fn fmt<W: fmt::Write>(&self, f: &mut fmt::Formatter<W>) -> fmt::Result {
-        match self.run.outcome {
-            Some(_) => f.write_str("idle"),
-            None => {
-                let ask = self.run.asks.len().saturating_sub(1);
-                write!(f, "waiting ask {ask}")
-            }
-        }
-    }
-}
-
-// What a member does now.
-#[derive(Drop)]
-struct NowText<'a> {
-    kept: &'a MemberRecord,
-}
-
-impl fmt::Display for NowText<'_> {
-    ghost output = { λ t. Some (now_line t.kept.now) };
-
-    fn fmt<W: fmt::Write>(&self, f: &mut fmt::Formatter<W>) -> fmt::Result {
-        let state = &self.kept.state;
-        match self.kept.runs.as_slice().last() {
-            Some(run) => {
-                let waiting = WaitingText { run };
-                writeln!(f, "now {waiting} state {state}")
-            }
-            None => writeln!(f, "now idle state {state}"),
-        }
-    }
-}
-
-// What stands behind a member's name and status, by its phase.
-#[derive(Drop)]
-struct PhaseText<'a, N> {
-    names: &'a N,
-    kept: &'a MemberRecord,
-}
-
-impl<N: Naming> fmt::Display for PhaseText<'_, N> {
-    ghost output = { λ t. Some (phase_lines (N.names t.names.now) t.kept.now.phase t.kept.now) };
-
-    fn fmt<W: fmt::Write>(&self, f: &mut fmt::Formatter<W>) -> fmt::Result {
-        let kept = self.kept;
-        match kept.phase {
-            Joiner::Outside => f.write_str(" outside\n"),
-            Joiner::Asking => f.write_str(" asking\n"),
-            Joiner::Fetching(_) => f.write_str(" fetching\n"),
-            Joiner::Active(_) => {
-                let from = kept.from;
-                let at = kept.active_at;
-                let count = kept.count;
-                let runs = RunsText {
-                    names: self.names,
-                    first: from,
-                    runs: kept.runs.as_slice(),
-                };
-                let now = NowText { kept };
-                write!(f, " from {from} at {at} count {count}\n{runs}{now}")
-            }
-        }
-    }
-}
 
 /// A member, as lines: what it is, its runs with their asks, and what it does now.
 #[derive(Drop)]
@@ -266,18 +26,19 @@ pub struct MemberText<'a, N> {
     pub kept: &'a MemberRecord,
 }
 
-impl<N: Naming> fmt::Display for MemberText<'_, N> {
-    ghost output = { λ t. Some (member_lines (N.names t.names.now) t.node t.troupe t.crashed t.kept.now) };
-
-    fn fmt<W: fmt::Write>(&self, f: &mut fmt::Formatter<W>) -> fmt::Result {
-        let node = self.names.node(usize::from(self.node));
-        let troupe = self.names.troupe(usize::from(self.troupe));
-        let status = StatusText(self.crashed);
-        let rest = PhaseText {
-            names: self.names,
-            kept: self.kept,
-        };
-        write!(f, "member {node} {troupe} {status}{rest}")
+impl<N: Naming> MemberText<'_, N> {
+    /// Adds the lines to a text. `NoMemory` is the one fault.
+    pub fn append_to(&self, text: &mut String) -> Result<(), NoMemory>
+        ensures { OnOk result (string_bytes text.new ≡ string_bytes text.old
+            ++ member_lines (N.names self.now.names.now) self.now.node self.now.troupe
+            self.now.crashed self.now.kept.now) }
+    {
+        text.push_str("member ")?;
+        text.push_str(self.names.node(usize::from(self.node)))?;
+        text.push_str(" ")?;
+        text.push_str(self.names.troupe(usize::from(self.troupe)))?;
+        append_status(text, self.crashed)?;
+        append_phase(text, self.names, self.kept)
     }
 }
 
@@ -304,13 +65,201 @@ pub fn show_member(
     let Some(troupe) = nodes[usize::from(node)].module else {
         unreachable!()
     };
-    let text = MemberText {
+    let member = MemberText {
         names: &ProgramNames::new(nodes, names.as_slice()),
         node,
         troupe,
         crashed,
         kept,
     };
-    let shown = format!(in alloc; "{text}")?;
-    ListOf::from_text(alloc, &shown)
+    let mut text = String::new(alloc);
+    member.append_to(&mut text)?;
+    Ok(ListOf::of(text.into_bytes()))
+}
+
+// Adds whether the node is live, or the step of its crash.
+fn append_status(text: &mut String, crashed: Option<u64>) -> Result<(), NoMemory>
+    ensures { OnOk result (string_bytes text.new
+        ≡ string_bytes text.old ++ (codes " " ++ status_text crashed)) }
+{
+    match crashed {
+        Some(step) => append_number(text, " crashed ", step),
+        None => text.push_str(" live"),
+    }
+}
+
+// Adds what stands behind a member's name and status, by its phase.
+fn append_phase<N: Naming>(
+    text: &mut String,
+    names: &N,
+    kept: &MemberRecord,
+) -> Result<(), NoMemory>
+    ensures { OnOk result (string_bytes text.new
+        ≡ string_bytes text.old ++ phase_lines (N.names names.now) kept.now.phase kept.now) }
+{
+    match kept.phase {
+        Joiner::Outside => text.push_str(" outside\n"),
+        Joiner::Asking => text.push_str(" asking\n"),
+        Joiner::Fetching(_) => text.push_str(" fetching\n"),
+        Joiner::Active(_) => {
+            append_counts(text, kept)?;
+            append_runs(text, names, kept.from, kept.runs.as_slice())?;
+            append_now(text, kept)
+        }
+    }
+}
+
+// Adds the first index that a member performs, the step in which it became active, and the index that it performs next.
+fn append_counts(text: &mut String, kept: &MemberRecord) -> Result<(), NoMemory>
+    ensures { OnOk result (string_bytes text.new ≡ string_bytes text.old
+        ++ line (codes " from " ++ decimal kept.now.from ++ codes " at "
+        ++ decimal kept.now.active_at ++ codes " count " ++ decimal kept.now.count)) }
+{
+    append_number(text, " from ", kept.from)?;
+    append_number(text, " at ", kept.active_at)?;
+    append_number(text, " count ", kept.count)?;
+    text.push_str("\n")
+}
+
+// Adds what a member does now.
+fn append_now(text: &mut String, kept: &MemberRecord) -> Result<(), NoMemory>
+    ensures { OnOk result
+        (string_bytes text.new ≡ string_bytes text.old ++ now_line kept.now) }
+{
+    text.push_str("now ")?;
+    append_last(text, kept.runs.as_slice())?;
+    append_values(text, " state ", &kept.state)?;
+    text.push_str("\n")
+}
+
+// Adds what the last of these runs waits for.
+fn append_last(text: &mut String, runs: &[RunRecord]) -> Result<(), NoMemory>
+    ensures { OnOk result
+        (string_bytes text.new ≡ string_bytes text.old ++ now_text runs.now) }
+{
+    match runs.last() {
+        Some(run) => append_waiting(text, run),
+        None => text.push_str("idle"),
+    }
+}
+
+// Adds what a run waits for, if it hasn't ended.
+fn append_waiting(text: &mut String, run: &RunRecord) -> Result<(), NoMemory>
+    ensures { OnOk result (string_bytes text.new
+        ≡ string_bytes text.old ++ waiting_text run.now.outcome run.now.asks) }
+{
+    match run.outcome {
+        Some(_) => text.push_str("idle"),
+        None => append_number(text, "waiting ask ", run.asks.len().saturating_sub(1)),
+    }
+}
+
+// Adds runs with their asks, the first of which has this place.
+fn append_runs<N: Naming>(
+    text: &mut String,
+    names: &N,
+    first: u32,
+    runs: &[RunRecord],
+) -> Result<(), NoMemory>
+    ensures { OnOk result (string_bytes text.new
+        ≡ string_bytes text.old ++ runs_lines (N.names names.now) first runs.now) }
+{
+    for (later, run) in runs.iter().enumerate() {
+        let place = u128::from(first) + later as u128;
+        append_run(text, names, place, run)?;
+    }
+    Ok(())
+}
+
+// Adds a run with its asks.
+fn append_run<N: Naming>(
+    text: &mut String,
+    names: &N,
+    place: u128,
+    run: &RunRecord,
+) -> Result<(), NoMemory>
+    ensures { OnOk result (string_bytes text.new
+        ≡ string_bytes text.old ++ run_lines (N.names names.now) place run.now) }
+{
+    let line = RunLine {
+        place,
+        step: Some(run.started),
+        root: names.troupe(usize::from(run.root)),
+        path: &run.path,
+        procedure: run.procedure,
+        entry: &run.entry,
+        arguments: &run.arguments,
+    };
+    line.append_to(text)?;
+    append_asks(text, names, run.asks.as_slice())?;
+    append_ended(text, place, run)
+}
+
+// Adds the asks of a run with their replies.
+fn append_asks<N: Naming>(text: &mut String, names: &N, asks: &[AskRecord]) -> Result<(), NoMemory>
+    ensures { OnOk result (string_bytes text.new
+        ≡ string_bytes text.old ++ asks_lines (N.names names.now) 0 asks.now) }
+{
+    for (number, ask) in asks.iter().enumerate() {
+        append_ask(text, names, number, ask)?;
+    }
+    Ok(())
+}
+
+// Adds an ask with its reply.
+fn append_ask<N: Naming>(
+    text: &mut String,
+    names: &N,
+    number: usize,
+    ask: &AskRecord,
+) -> Result<(), NoMemory>
+    ensures { OnOk result (string_bytes text.new
+        ≡ string_bytes text.old ++ ask_lines (N.names names.now) number ask.now) }
+{
+    let line = AskLine {
+        number,
+        step: Some(ask.asked),
+        callee: names.troupe(usize::from(ask.callee)),
+        index: ask.index,
+        procedure: ask.procedure,
+        arguments: &ask.arguments,
+        state: &ask.state,
+    };
+    line.append_to(text)?;
+    append_answered(text, number, ask)
+}
+
+// Adds the reply to an ask that was answered.
+fn append_answered(text: &mut String, number: usize, ask: &AskRecord) -> Result<(), NoMemory>
+    ensures { OnOk result (string_bytes text.new ≡ string_bytes text.old
+        ++ answered_line number ask.now.reply ask.now.after ask.now.answered) }
+{
+    let (Some(reply), Some(after)) = (&ask.reply, &ask.after) else {
+        return Ok(());
+    };
+    let line = ReplyLine {
+        number,
+        step: ask.answered,
+        after,
+        reply,
+    };
+    line.append_to(text)
+}
+
+// Adds the end of a run that has ended.
+fn append_ended(text: &mut String, place: u128, run: &RunRecord) -> Result<(), NoMemory>
+    ensures { OnOk result (string_bytes text.new ≡ string_bytes text.old
+        ++ ended_line place run.now.outcome run.now.state run.now.end run.now.ended) }
+{
+    let (Some(outcome), Some(state), Some(end)) = (&run.outcome, &run.state, &run.end) else {
+        return Ok(());
+    };
+    let line = EndLine {
+        place,
+        step: run.ended,
+        end,
+        outcome,
+        state,
+    };
+    line.append_to(text)
 }

@@ -1,21 +1,11 @@
--- Lines that are added, one by one.
-use Rattle.std.proofs.Common.{◌≡◌, ℕ, ◌+◌, ◌<◌, List, ◌∷◌, ◌++◌, length, take, drop, get_or, Some, inl, inr, refl, sym, ap, ◌∙◌, append_assoc, add-one, drop-cons, arith}
+-- The lines of members that are added, one by one.
+use Rattle.std.proofs.Common.{◌≡◌, ℕ, ◌+◌, ◌<◌, List, ◌∷◌, ◌++◌, length, drop, get_or, Some, inl, inr, refl, sym, ap, ◌∙◌, append_assoc, add-one, drop-cons, arith}
 use Rattle.std.specs.Prelude.{slice_get}
 use Rattle.std.proofs.lemmas.Option.{slice_get_cases, slice_get_read, slice_get_within, get_or_from_slice_get}
 use Rattle.circus_collate.specs.declared.deployment.Host.{Host}
 use Rattle.circus_record.specs.Naming.{Names}
-use Rattle.circus_record.proofs.LinesMore.{more_from_none}
-use Rattle.circus_world.specs.Sent.{Sent}
 use Rattle.circus_world.specs.WorldState.{Standing}
-use Rattle.circus_report.specs.Report.{sent_line, sent_lines, member_at, members_lines}
-
--- where the line of a datagram is added, those of the front with it are
-pub sent_added : (names : Names) (old text next : List ℕ) (all : List Sent) (i : ℕ) (sent : Sent) → i < length all → sent ≡ get_or all i sent
-    → text ≡ old ++ sent_lines names 0 (take i all) → next ≡ text ++ sent_line names i sent → next ≡ old ++ sent_lines names 0 (take (i + 1) all)
-sent_added names old text next all i sent below is so_far added =
-    added ∙ ap (λ l. l ++ sent_line names i sent) so_far
-    ∙ append_assoc old (sent_lines names 0 (take i all)) (sent_line names i sent)
-    ∙ ap (λ l. old ++ l) (sym (more_from_none (sent_lines names) (sent_line names) (λ n. refl) (λ n x xs. refl) all i sent below is))
+use Rattle.circus_report.specs.Report.{member_at, members_lines}
 
 -- what stands at a place, and then the others
 from_here : {A : Type 0} (xs : List A) (i : ℕ) (x : A) → slice_get xs i ≡ Some x → drop i xs ≡ x ∷ drop (i + 1) xs

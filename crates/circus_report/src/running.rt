@@ -1,5 +1,5 @@
 // A replay that writes its report as it goes.
-ghost use Rattle.std.specs.Prelude.{◌≡◌, ◌<◌, ◌≤◌, [], All, IsAscii, IfOk, OnOk, IsErrOf, Some, length, slice_get};
+ghost use Rattle.std.specs.Prelude.{◌≡◌, ◌<◌, ◌≤◌, All, IsAscii, IfOk, OnOk, IsErrOf, Some, length, slice_get};
 ghost use Rattle.circus_outside.specs.Faults.{Rose};
 ghost use Rattle.circus_record.specs.Naming.{host_name, names_of};
 ghost use Rattle.circus_schedule.specs.Meaning.{NamesBelow};

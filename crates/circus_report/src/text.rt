@@ -10,7 +10,7 @@ ghost use Rattle.circus_report.specs.Report as report;
 use crate::views::{RingmasterLine, ViewsText};
 use circus_collate::{Deployment, Host};
 use circus_model::Module;
-use circus_record::{MemberText, Naming, ProgramNames};
+use circus_record::{MemberText, Naming, ProgramNames, node_name};
 use circus_value::{ListOf, Name, NoMemory, Octets};
 use circus_world::{Sent, SentList, World};
 use itoa::Buffer;
@@ -114,7 +114,7 @@ fn append_sender(
     text.extend_from_slice(b" step ")?;
     text.extend_from_slice(digits.format(sent.step).as_bytes())?;
     text.extend_from_slice(b" from ")?;
-    append_node(text, nodes, sent.from)
+    text.extend_from_slice(node_name(nodes, usize::from(sent.from)))
 }
 
 // Adds to whom it was sent, and its bytes.
@@ -124,21 +124,10 @@ fn append_content(text: &mut Vec<u8>, nodes: &[Host], sent: &Sent<'_>) -> Result
         ++ encode_lower sent.now.bytes.now)) }
 {
     text.extend_from_slice(b" to ")?;
-    append_node(text, nodes, sent.to)?;
+    text.extend_from_slice(node_name(nodes, usize::from(sent.to)))?;
     text.extend_from_slice(b" ")?;
     append_digits(text, sent.bytes)?;
     text.extend_from_slice(b"\n")
-}
-
-// Adds what a node is called.
-fn append_node(text: &mut Vec<u8>, nodes: &[Host], number: u16) -> Result<(), NoMemory>
-    ensures { OnOk result
-        (text.new.items ≡ text.old.items ++ (names_of nodes.now []).node number) }
-{
-    match nodes.get(usize::from(number)) {
-        Some(host) => text.extend_from_slice(host.name.as_slice()),
-        None => Ok(()),
-    }
 }
 
 // Adds bytes, each as two hexadecimal digits, which are written in their place.
@@ -248,6 +237,5 @@ pub(crate) fn append_member<M: Module, N: Naming>(
         crashed: world.crashed(node),
         kept,
     };
-    write!(text, "{member}")?;
-    Ok(())
+    member.append_to(text)
 }

@@ -81,8 +81,7 @@ fn append_member<M: Module, N: Naming>(
         crashed: None,
         kept,
     };
-    write!(text, "{member}")?;
-    Ok(())
+    member.append_to(text)
 }
 
 // Adds the line of the Ringmaster, and the lines of its views.
