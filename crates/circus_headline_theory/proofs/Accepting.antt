@@ -59,7 +59,7 @@ use Rattle.circus_headline_theory.proofs.Owed.Lives.{rises}
 use Rattle.circus_headline_theory.proofs.Datagrams.Asked.{found_there, IsEntry, open_all, call_was_due}
 use Rattle.circus_headline_theory.proofs.Datagrams.Membership.{all_in, filtered_in}
 use Rattle.circus_headline_theory.specs.Trace.{heard_in}
-use Rattle.circus_headline_theory.specs.NodeRun.{occurrence_by_record, accepted_answer}
+use Rattle.circus_headline_theory.specs.NodeRun.{occurrence_by_record}
 use Rattle.circus_headline_theory.proofs.Asks.{Callee, callee_of, recorded, recorded_at, imported_recorded}
 
 -- ---- what is heard
@@ -135,7 +135,7 @@ module _ {M : Type 0} (d : Deployment) (declared : Signature) (m : MemberState M
 
   answer_as : (name : AskName) (server : ℕ) (message : List ℕ) → SaysSame name → (o : Option (ReturnHeader × ℕ))
       → option_and_then (λ (read : ReturnHeader × ℕ). accepting.taken_answer d declared m name server from read.0 read.1 message) o
-      ≡ option_and_then (accepted_answer d declared kept name server from message) o
+      ≡ option_and_then (λ (read : ReturnHeader × ℕ). accepting.said_by d declared (recorded_ask kept name) name server from read.0 read.1 message) o
   answer_as name server message same None = refl
   answer_as name server message same (Some (says.Reply clock, at)) =
       λ j. option_map (comes.Replied name from)

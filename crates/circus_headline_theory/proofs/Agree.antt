@@ -294,10 +294,10 @@ module _ (place : Place) (boot : List View) (begins : Joiner) (procedures : List
       here : slice_get kept.runs (length before) ≡ Some x
       here = ap (λ l. slice_get l (length before)) are ∙ at_front before x rest
 
-      abbrev then_state : List ValueTree
+      abbrev pub then_state : List ValueTree
       then_state = state_after state before
 
-      x_is : HasEnded b then_state x ⊎ IsOpen b then_state x
+      pub x_is : HasEnded b then_state x ⊎ IsOpen b then_state x
       x_is = run_is b state kept h.follows before rest x are
 
       abbrev name : ℕ → AskName
@@ -306,7 +306,7 @@ module _ (place : Place) (boot : List View) (begins : Joiner) (procedures : List
       -- ---- its asks
 
       module _ (made : List AskRecord) (c : AskRecord) (cs : List AskRecord) (there : x.asks ≡ made ++ c ∷ cs) where
-        ask : AskIs b then_state x made c cs
+        pub ask : AskIs b then_state x made c cs
         ask = ask_is b then_state x x_is made c cs there
 
         front : take (length made) x.asks ≡ made
@@ -334,7 +334,7 @@ module _ (place : Place) (boot : List View) (begins : Joiner) (procedures : List
                 record { reply_is = answered.reply_is ∙ ap (λ v. Some v) r.0; after_is = answered.after_is ∙ ap (λ v. Some v) r.1; answered_is = answered.answered_is ∙ ap (λ v. Some v) r.2 }
             by_next (inr waits) = absurd (true≢false (sym spent ∙ waits.0.calls_left))
 
-        answered_after : (m : ℕ) → c.answered ≡ Some m → c.asked ≤ m
+        pub answered_after : (m : ℕ) → c.answered ≡ Some m → c.asked ≤ m
         answered_after m is = by_spent (is_spent (clock_after x.entry made)) refl
           where
             by_given : (o : Option (ℕ × Reply)) → first_given (may_answer place boot begins (name (length made)) c) p ≡ o → ShowsAnswer c o → c.asked ≤ m
@@ -351,7 +351,7 @@ module _ (place : Place) (boot : List View) (begins : Joiner) (procedures : List
             by_spent false left = by_given (first_given (may_answer place boot begins (name (length made)) c) p) refl (shows left)
 
         -- one that waits is the last
-        last_waits : c.answered ≡ None → cs ≡ []
+        pub last_waits : c.answered ≡ None → cs ≡ []
         last_waits none = elim ask.next [
           | inl answered ↦ absurd (none_is_some c.answered answered.answered none answered.answered_is)
           | inr waits ↦ waits.1

@@ -79,7 +79,8 @@ use Rattle.circus_headline_theory.proofs.Accepting.{heard_as, IsRecorded, answer
 use Rattle.circus_headline_theory.proofs.Asks.{imported_recorded}
 use Rattle.circus_headline_theory.proofs.Growing.{SaysAs, says_on, says_then, in_order_as}
 use Rattle.circus_headline_theory.proofs.Handing.{handed_as}
-use Rattle.circus_headline_theory.proofs.Sends.{ComeOfPeers, Sends, behind_stands, step_sends, step_spends, boot_sends, boot_spends}
+use Rattle.circus_headline_theory.specs.Peers.{ComeOfPeers}
+use Rattle.circus_headline_theory.proofs.Sends.{Sends, behind_stands, step_sends, step_spends, boot_sends, boot_spends}
 
 -- ---- what was made in a step, without the step
 

@@ -22,7 +22,7 @@ use Rattle.circus_world_theory.proofs.Border.Reaching.{Reaches, AllReach}
 use Rattle.circus_headline_theory.proofs.Datagrams.AtPairs.{other_by}
 use Rattle.circus_headline_theory.specs.Trace.{handed_over}
 
-up_is : (b : Beginning) (acts : WireActs Purpose) (w : WireState Purpose) (to : ℕ) → WireStands w b acts → IsOther w to → is_up w to ≡ not (is_stopped_after (acts_at (pair_of b) to acts))
+pub up_is : (b : Beginning) (acts : WireActs Purpose) (w : WireState Purpose) (to : ℕ) → WireStands w b acts → IsOther w to → is_up w to ≡ not (is_stopped_after (acts_at (pair_of b) to acts))
 up_is b acts w to stands other =
     let peer = other_peer b acts w to stands other in
     ap (of_peer false (λ (p : PeerState Purpose). not p.exchange.stopped)) (peer_is w w.own w.format w.peers to (place_of w.own to) peer.0 refl other.0 refl peer.1)

@@ -41,7 +41,7 @@ use Rattle.circus_member_rules.specs.declared.occurrence.Occurrence.{Occurrence}
 use Rattle.circus_member_rules.specs.declared.occurrence.Occurrence.TheVariants as occurs
 use Rattle.circus_member_rules.specs.declared.occurrence.Purpose.{Purpose}
 use Rattle.circus_member_rules.specs.declared.occurrence.Purpose.TheVariants as for
-use Rattle.circus_node.specs.Accepting.{imported_procedure, recorded_ask}
+use Rattle.circus_node.specs.Accepting.{imported_procedure, recorded_ask, said_by}
 use Rattle.circus_node.specs.Bodies.{outcome_at}
 use Rattle.circus_node.specs.Headers.{return_in}
 use Rattle.circus_world_theory.proofs.Border.Makers.{IsIn, IsAmong, among_all, in_both, in_flat_map}
@@ -68,9 +68,10 @@ use Rattle.circus_headline_theory.proofs.Datagrams.Asked.{call_was_due}
 use Rattle.circus_headline_theory.proofs.Datagrams.Membership.{in_first, in_second, in_map, mapped_in, filtered_in}
 use Rattle.circus_headline_theory.proofs.Datagrams.Requested.{WasDue}
 use Rattle.circus_headline_theory.proofs.Datagrams.Returning.{is_so, return_was_due}
-use Rattle.circus_headline_theory.specs.NodeRun.{occurrence_by_record, accepted_answer, accepted_return, happens_by, past_of, runs_at_boot, IsOrderedFor, IsOrdered, IsNodeRun}
+use Rattle.circus_headline_theory.specs.NodeRun.{occurrence_by_record, accepted_return, happens_by, past_of, runs_at_boot, IsOrderedFor, IsOrdered, IsNodeRun}
 use Rattle.circus_headline_theory.specs.Trace.{events_of, made_of, told_of, now, Rises, handed_over, acts_in_step, acts_of, gives_for_all, suspects_in, heard_in, SendsWhatIsOwed}
 use Rattle.circus_headline_theory.specs.Numbers.{HasNumbers}
+use Rattle.circus_headline_theory.specs.Owed.OrderedMakes.{made_at_boot, BeginsRight}
 use Rattle.circus_headline_theory.proofs.Accepting.{purposed}
 use Rattle.circus_headline_theory.proofs.Asks.{callee_of, recorded, imported_recorded}
 use Rattle.circus_headline_theory.proofs.Agree.{Agree, was_below, was_booted, IsSince, agree_since}
@@ -94,11 +95,6 @@ abbrev before_of : Trace → Trace
 before_of (booted made outputs) = booted made outputs
 before_of (stepped t at event made outputs) = t
 
--- what was made at boot
-abbrev first_made : Trace → List Effect
-first_made (booted made outputs) = made
-first_made (stepped t at event made outputs) = first_made t
-
 trace_self : (t : Trace) → WasTrace t t
 trace_self (booted made outputs) = refl
 trace_self (stepped t at event made outputs) = inl refl
@@ -118,9 +114,9 @@ was_rising (booted m o) u rises same = subst Rises (sym same) tt
 was_rising (stepped t at event m o) u rises (inl same) = subst Rises (sym same) rises
 was_rising (stepped t at event m o) u rises (inr was) = was_rising t u rises.0 was
 
-first_was : (t u : Trace) → WasTrace t u → first_made u ≡ first_made t
-first_was (booted m o) u same = ap first_made same
-first_was (stepped t at event m o) u (inl same) = ap first_made same
+first_was : (t u : Trace) → WasTrace t u → made_at_boot u ≡ made_at_boot t
+first_was (booted m o) u same = ap made_at_boot same
+first_was (stepped t at event m o) u (inl same) = ap made_at_boot same
 first_was (stepped t at event m o) u (inr was) = first_was t u was
 
 -- ---- two traces with the same events
@@ -150,7 +146,7 @@ made_early (stepped t n event made outputs) rises step e at = elim (in_both (mad
   | inr here ↦ (let m = in_map (λ (x : Effect). (n, x)) made (step, e) here in let same = ap (λ (x : ℕ × Effect). x.0) m.2 in omega (arith, same))
 ]
 
-made_first : (t : Trace) (e : Effect) → IsIn (first_made t) e → IsIn (made_of t) (0, e)
+made_first : (t : Trace) (e : Effect) → IsIn (made_at_boot t) e → IsIn (made_of t) (0, e)
 made_first (booted made outputs) e at = mapped_in (λ (x : Effect). (0, x)) made e at
 made_first (stepped t n event made outputs) e at = in_first (made_of t) (made_in n made) (0, e) (made_first t e at)
 
@@ -263,7 +259,8 @@ module _ (d : Deployment) (declared : Signature) (own : ℕ) (one other : Member
       by_test false = tt
 
   answer_same : (name : AskName) (server : ℕ) (message : List ℕ) → SaysSame (for.Ask name server) → (o : Option (ReturnHeader × ℕ))
-      → option_and_then (accepted_answer d declared one name server from message) o ≡ option_and_then (accepted_answer d declared other name server from message) o
+      → option_and_then (λ (read : ReturnHeader × ℕ). said_by d declared (recorded_ask one name) name server from read.0 read.1 message) o
+      ≡ option_and_then (λ (read : ReturnHeader × ℕ). said_by d declared (recorded_ask other name) name server from read.0 read.1 message) o
   answer_same name server message same None = refl
   answer_same name server message same (Some (says.Reply clock, at)) =
       λ j. option_map (occurs.Replied name from)
@@ -460,7 +457,7 @@ module _ (d : Deployment) (b : Behaviour) (node number : ℕ) (troupe : Troupe) 
       by_test true rest = ap (λ l. (step, e) ∷ l) rest
       by_test false rest = rest
 
-  asked_first : (t : Trace) → Rises t → of_step 0 (filter asked (made_of t)) ≡ filter is_of_ask (first_made t)
+  asked_first : (t : Trace) → Rises t → of_step 0 (filter asked (made_of t)) ≡ filter is_of_ask (made_at_boot t)
   asked_first (booted made outputs) rises = ap (of_step 0) (asked_in 0 made) ∙ of_own 0 (filter is_of_ask made)
   asked_first (stepped t at event made outputs) rises =
       let rest = asked_first t rises.0 in
@@ -468,7 +465,7 @@ module _ (d : Deployment) (b : Behaviour) (node number : ℕ) (troupe : Troupe) 
       ap (of_step 0) (filter-append asked (made_of t) (made_in at made))
       ∙ of_step-append 0 (filter asked (made_of t)) (filter asked (made_in at made))
       ∙ (λ j. rest j ++ none j)
-      ∙ append-nil (filter is_of_ask (first_made t))
+      ∙ append-nil (filter is_of_ask (made_at_boot t))
 
   calls_first : (kept : MemberRecord) (p : Past) → past.Rises p → of_step 0 (calls_owed place boot kept p) ≡ flat_map (first_calls place boot (knows place boot past.booted)) (new_asks place boot kept past.booted)
   calls_first kept past.booted rises = of_own 0 (flat_map (first_calls place boot (knows place boot past.booted)) (new_asks place boot kept past.booted))
@@ -533,18 +530,17 @@ module _ (d : Deployment) (b : Behaviour) (node number : ℕ) (troupe : Troupe) 
   all_pass (e ∷ made) each =
       ap (λ t. cond t (e ∷ filter is_of_ask made) (filter is_of_ask made)) (each e (inl refl)) ∙ ap (λ l. e ∷ l) (all_pass made (λ x at. each x (inr at)))
 
-  first_owed : (t : Trace) (kept : MemberRecord) → IsNodeRun d b node number troupe t kept → Rises t
-      → first_made t ≡ flat_map (first_calls place boot (knows place boot past.booted)) (new_asks place boot kept past.booted)
+  pub first_owed : (t : Trace) (kept : MemberRecord) → IsNodeRun d b node number troupe t kept → Rises t → BeginsRight place boot kept (made_at_boot t)
   first_owed t kept h rises =
-      sym (all_pass (first_made t) of_ask) ∙ sym (asked_first t rises) ∙ ap (of_step 0) h.makes.asked.calls ∙ calls_first kept (lived kept t) (lived_rises kept t rises)
+      sym (all_pass (made_at_boot t) of_ask) ∙ sym (asked_first t rises) ∙ ap (of_step 0) h.makes.asked.calls ∙ calls_first kept (lived kept t) (lived_rises kept t rises)
     where
-      no_request : (to : ℕ) (message : List ℕ) (purpose : Purpose) → is_no_ask purpose ≡ true → IsIn (first_made t) (effects.Call to message purpose) → ⊥
+      no_request : (to : ℕ) (message : List ℕ) (purpose : Purpose) → is_no_ask purpose ≡ true → IsIn (made_at_boot t) (effects.Call to message purpose) → ⊥
       no_request to message purpose is at =
           none_requested kept (lived kept t) (lived_rises kept t rises) (effects.Call to message purpose)
           (subst (λ l. IsIn l (0, effects.Call to message purpose)) h.makes.requested.requests
           (filtered_in (λ (e : ℕ × Effect). is_request e.1) (made_of t) (0, effects.Call to message purpose) (made_first t (effects.Call to message purpose) at) is))
 
-      no_return : (caller : Caller) (message : List ℕ) → IsIn (first_made t) (effects.Answer caller message) → ⊥
+      no_return : (caller : Caller) (message : List ℕ) → IsIn (made_at_boot t) (effects.Answer caller message) → ⊥
       no_return caller message at =
           let w = return_was_due place boot begins b.first kept (lived kept t) (made_of t) 0 caller message h.makes.returned (made_first t (effects.Answer caller message) at) in
           let now_is = w.now_is in
@@ -554,7 +550,7 @@ module _ (d : Deployment) (b : Behaviour) (node number : ℕ) (troupe : Troupe) 
                 (let later = later_one (requests (lived kept t)) (request.step, caller) (requests_later (lived kept t) (lived_rises kept t rises)) request.came in let low = request.by_then in absurd (omega (arith, later, low, now_is)))
           ]
 
-      of_ask : (e : Effect) → IsIn (first_made t) e → is_of_ask e ≡ true
+      of_ask : (e : Effect) → IsIn (made_at_boot t) e → is_of_ask e ≡ true
       of_ask (effects.Call to message (for.Ask name server)) at = refl
       of_ask (effects.Call to message (for.Ring request)) at = absurd (no_request to message (for.Ring request) refl at)
       of_ask (effects.Call to message for.Fetch) at = absurd (no_request to message for.Fetch refl at)
@@ -646,7 +642,7 @@ module _ (d : Deployment) (b : Behaviour) (node number : ℕ) (troupe : Troupe) 
 
     -- ---- at boot
 
-    boot_same : first_made T ≡ first_made U
+    boot_same : made_at_boot T ≡ made_at_boot U
     boot_same =
         first_owed T kept h t_rises
         ∙ ap (flat_map (first_calls place boot (knows place boot past.booted)))

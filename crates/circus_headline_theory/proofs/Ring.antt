@@ -55,7 +55,8 @@ use Rattle.circus_node.specs.Trace as trace
 use Rattle.circus_headline_theory.specs.Trace.{handed_over, acts_of, acts_in_step, gives_for_all, heard_in, SendsWhatIsOwed}
 use Rattle.circus_headline_theory.specs.Numbers.{HasNumbers}
 use Rattle.circus_headline_theory.specs.Lived.{then_on, with_events}
-use Rattle.circus_headline_theory.proofs.Sends.{ComeOfPeers, step_sends, step_spends, boot_sends, boot_spends}
+use Rattle.circus_headline_theory.specs.Peers.{ComeOfPeers}
+use Rattle.circus_headline_theory.proofs.Sends.{step_sends, step_spends, boot_sends, boot_spends}
 use Rattle.circus_headline_theory.specs.RingRun.{request_heard, answer_to, kept_behind, request_in, requests_of, AnswersRequests, IsRingRun}
 
 abbrev asked : Requests → List Request

@@ -13,10 +13,11 @@ use Rattle.circus_member_rules.specs.declared.occurrence.Occurrence.{Occurrence}
 use Rattle.circus_member_rules.specs.declared.occurrence.Purpose.{Purpose}
 use Rattle.circus_member_rules.specs.declared.occurrence.Purpose.TheVariants as for
 use Rattle.circus_member_rules.specs.Proper.{IsProperProcedure, IsProperModule}
+use Rattle.circus_node.specs.Accepting.{recorded_ask, said_by}
 use Rattle.circus_node.specs.Acceptance.{procedure_recorded, AcceptsReturn}
 use Rattle.circus_node.specs.Headers.{return_in}
 use Rattle.circus_member_theory.proofs.Accepting.Rules.{answer_by, answer_follows, answer_accepted, table_follows, table_accepted, state_follows, state_accepted}
-use Rattle.circus_headline_theory.specs.NodeRun.{accepted_answer, accepted_return}
+use Rattle.circus_headline_theory.specs.NodeRun.{accepted_return}
 
 module _ (d : Deployment) (declared : Signature) (kept : MemberRecord) (from : ℕ) (message : List ℕ) where
   -- a record takes what the procedure gives that it has for the ask
@@ -26,7 +27,7 @@ module _ (d : Deployment) (declared : Signature) (kept : MemberRecord) (from : �
   answer_is name server = by_read (return_in message)
     where
       by_read : (r : Option (ReturnHeader × ℕ))
-          → option_and_then (accepted_answer d declared kept name server from message) r
+          → option_and_then (λ (read : ReturnHeader × ℕ). said_by d declared (recorded_ask kept name) name server from read.0 read.1 message) r
           ≡ option_and_then (answer_by d (procedure_recorded declared kept name) name server from message) r
       by_read None = refl
       by_read (Some (says.Reply clock, at)) = refl

@@ -45,6 +45,7 @@ use Rattle.circus_world_theory.specs.NodeActs.{with_all, acts_of_datagram, came_
 use Rattle.circus_world_theory.proofs.Given.{IsPeer, peer_by, with_both, same_end}
 use Rattle.circus_world_theory.proofs.Spelled.{few_made}
 use Rattle.circus_world_theory.proofs.Steps.{IsRead}
+use Rattle.circus_headline_theory.specs.Peers.{ComeOfPeers}
 use Rattle.circus_headline_theory.specs.Trace.{gives_for, gives_for_all, suspects_in}
 use Rattle.circus_headline_theory.proofs.Datagrams.AtPairs.{other_by, lawful_then}
 
@@ -56,17 +57,6 @@ gives_both b acts (act ∷ some) more =
     ∙ sym (append_assoc (gives_for b acts act) (gives_for_all b (followed_by acts act) some) (gives_for_all b (with_all (followed_by acts act) some) more))
 
 -- ---- nothing comes of a node that is none of the others, and nothing is called there
-
-abbrev pub ComesOfPeer : Beginning → WireAct Purpose → Type 0
-ComesOfPeer b (CallTo to message purpose) = IsPeer b to
-ComesOfPeer b (AnswerTo caller message) = Unit {0}
-ComesOfPeer b (CameFrom from s) = IsPeer b from
-ComesOfPeer b TickAll = Unit {0}
-ComesOfPeer b (StopOf node) = Unit {0}
-
-abbrev pub ComeOfPeers : Beginning → WireActs Purpose → Type 0
-ComeOfPeers b begun = Unit {0}
-ComeOfPeers b (followed_by acts act) = ComeOfPeers b acts × ComesOfPeer b act
 
 none_arrived : (call : ℕ) → has_arrived [] 0 call ≡ false
 unfolding has_arrived total_in
@@ -219,14 +209,14 @@ up_answered w caller message node =
 -- ---- a call or a return is handed over
 
 -- the pairs stand for acts, and are up as they were
-record Hands (b : Beginning) (acts : WireActs Purpose) (old w : WireState Purpose) : Type 0 where
-  stands : WireStands w b acts
-  of_peers : ComeOfPeers b acts
-  up : (node : ℕ) → is_up w node ≡ is_up old node
-  format : w.format ≡ old.format
+pub record Hands (b : Beginning) (acts : WireActs Purpose) (old w : WireState Purpose) : Type 0 where
+  pub stands : WireStands w b acts
+  pub of_peers : ComeOfPeers b acts
+  pub up : (node : ℕ) → is_up w node ≡ is_up old node
+  pub format : w.format ≡ old.format
 
 -- and this was given; else there is no number for the last call
-abbrev HandsSo : Beginning → WireActs Purpose → WireState Purpose → List Give → Sending → Type 0
+abbrev pub HandsSo : Beginning → WireActs Purpose → WireState Purpose → List Give → Sending → Type 0
 HandsSo b acts old given (sent w gives) = Hands b acts old w × (gives ≡ given)
 HandsSo b acts old given (spent node) = IsSpent b acts node
 
@@ -362,7 +352,7 @@ spent_behind b acts more node is = (let low = made_behind node acts more in omeg
 given_as : (b : Beginning) (acts : WireActs Purpose) (old : WireState Purpose) (s : Sending) (given other : List Give) → given ≡ other → HandsSo b acts old given s → HandsSo b acts old other s
 given_as b acts old s given other same h = subst (λ l. HandsSo b acts old l s) same h
 
-all_on : (b : Beginning) → b.first ≤ never_used → (acts : WireActs Purpose) (old : WireState Purpose) (s : Sending) (given : List Give) (effects : List Effect) → HandsSo b acts old given s
+pub all_on : (b : Beginning) → b.first ≤ never_used → (acts : WireActs Purpose) (old : WireState Purpose) (s : Sending) (given : List Give) (effects : List Effect) → HandsSo b acts old given s
     → HandsSo b (with_all acts (flat_map (handed_by old) effects)) old (given ++ gives_for_all b acts (flat_map (handed_by old) effects)) (all_handed s effects)
 all_on b low acts old s given [] so_far = given_as b acts old s given (given ++ []) (sym (append-nil given)) so_far
 all_on b low acts old (spent node) given (e ∷ effects) so_far =
@@ -418,16 +408,16 @@ module _ {M : Type 0} where
       is
 
 module _ (b : Beginning) (acts : WireActs Purpose) (w : WireState Purpose) (from : ℕ) (other : IsOther w from) (stands : WireStands w b acts) (of_peers : ComeOfPeers b acts) where
-  datagram_stands : (segment : Result Piece SegmentFault) → ((s : Piece) → segment ≡ Ok s → IsSegment s)
+  pub datagram_stands : (segment : Result Piece SegmentFault) → ((s : Piece) → segment ≡ Ok s → IsSegment s)
       → WireStands (after_datagram w from segment) b (with_all acts (acts_of_datagram from segment))
   datagram_stands (Ok s) is = came_stands b acts w from s s other stands refl (is s refl) (after_datagram w from (Ok s)) refl
   datagram_stands (Err fault) is = stands
 
-  datagram_of : (segment : Result Piece SegmentFault) → ComeOfPeers b (with_all acts (acts_of_datagram from segment))
+  pub datagram_of : (segment : Result Piece SegmentFault) → ComeOfPeers b (with_all acts (acts_of_datagram from segment))
   datagram_of (Ok s) = (of_peers, peer_by b acts w from stands other)
   datagram_of (Err fault) = of_peers
 
-  datagram_gives : (segment : Result Piece SegmentFault) → ((s : Piece) → segment ≡ Ok s → IsSegment s)
+  pub datagram_gives : (segment : Result Piece SegmentFault) → ((s : Piece) → segment ≡ Ok s → IsSegment s)
       → gives_of (sent_by_datagram w from segment) ≡ gives_for_all b acts (acts_of_datagram from segment)
   datagram_gives (Ok s) is =
       ap gives_of (came_owes b acts w from s s other stands refl (is s refl)) ∙ sym (append-nil (gives_for b acts (CameFrom from s)))

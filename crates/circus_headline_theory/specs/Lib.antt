@@ -1,6 +1,7 @@
 pub mod Owed
 pub mod Datagrams
 pub mod Facts
+pub mod Peers
 pub mod Trace
 pub mod Numbers
 pub mod NodeRun

@@ -3,32 +3,23 @@
 use Rattle.std.specs.Prelude.{ℕ, ◌≡◌, ◌==◌, if◌then◌else◌, List, [], Option, None, Some, length, option_map, option_and_then}
 use Rattle.circus_value.specs.ValueTree.{ValueTree}
 use Rattle.circus_segment.specs.Segment.{reading}
-use Rattle.circus_header.specs.declared.answer.Reply.{Reply}
-use Rattle.circus_header.specs.declared.answer.ReturnHeader.{ReturnHeader}
-use Rattle.circus_header.specs.declared.answer.ReturnHeader.TheVariants as says
 use Rattle.circus_collate.specs.declared.deployment.Deployment.{Deployment}
 use Rattle.circus_collate.specs.declared.deployment.Troupe.{Troupe}
 use Rattle.circus_transfer.specs.declared.joiner.Joiner.{Joiner}
 use Rattle.circus_ring.specs.RingTable.{boot_views}
 use Rattle.circus_model.specs.Behaviour.{Behaviour}
 use Rattle.circus_model.specs.declared.signature.Signature.{Signature}
-use Rattle.circus_limits.specs.Limits.{limit_of}
 use Rattle.circus_record.specs.declared.record.MemberRecord.{MemberRecord}
 use Rattle.circus_performing.specs.Performing.{is_active}
 use Rattle.circus_performing.specs.Record.{IsRecord}
 use Rattle.circus_wire.specs.WireActs.{WireActs}
 use Rattle.circus_wire.specs.declared.delivery.Heard.{Heard}
-use Rattle.circus_wire.specs.declared.delivery.Heard.TheVariants.{Dropped, Taken, Called, Returned}
 use Rattle.circus_member_rules.specs.declared.place.Place.{Place}
-use Rattle.circus_member_rules.specs.declared.occurrence.AskName.{AskName}
 use Rattle.circus_member_rules.specs.declared.occurrence.Effect.{Effect}
 use Rattle.circus_member_rules.specs.declared.occurrence.Occurrence.{Occurrence}
 use Rattle.circus_member_rules.specs.declared.occurrence.Occurrence.TheVariants as occurs
 use Rattle.circus_member_rules.specs.declared.occurrence.Purpose.{Purpose}
-use Rattle.circus_member_rules.specs.declared.occurrence.Purpose.TheVariants as for
-use Rattle.circus_node.specs.Accepting.{accepted_call, accepted_table, accepted_state, imported_procedure, recorded_ask}
-use Rattle.circus_node.specs.Bodies.{outcome_at}
-use Rattle.circus_node.specs.Headers.{return_in}
+use Rattle.circus_node.specs.Accepting.{recorded_ask, return_by, occurrence_by}
 use Rattle.circus_node.specs.Booting.{beginning_in, home_in}
 use Rattle.circus_node.specs.declared.event.Event.{Event}
 use Rattle.circus_node.specs.declared.event.Event.TheVariants as comes
@@ -48,37 +39,13 @@ use Rattle.circus_node.specs.Trace.{Trace}
 -- ---- what is accepted, by the record of the member in the end: an ask of a name is looked up there, and not among the asks that are
 -- open then, as where a node decides it (circus_node/specs/Accepting.antt)
 
--- a reply to an ask of a name: a count for each module, and an outcome of what the ask called
-abbrev pub accepted_reply : Deployment → Signature → MemberRecord → AskName → List ℕ → ℕ → List ℕ → Option Reply
-accepted_reply d declared kept name clock at message =
-    if length clock == length d.troupes
-    then option_map (λ outcome. record { clock = clock; outcome = outcome })
-    (option_and_then (λ p. outcome_at p (limit_of d.format) at message)
-    (option_and_then (imported_procedure declared) (recorded_ask kept name)))
-    else None
-
--- what a return to an ask says
-abbrev pub accepted_answer : Deployment → Signature → MemberRecord → AskName → ℕ → ℕ → List ℕ → ReturnHeader × ℕ → Option Occurrence
-accepted_answer d declared kept name server from message (says.Reply clock, at) =
-    option_map (occurs.Replied name from) (accepted_reply d declared kept name clock at message)
-accepted_answer d declared kept name server from message (says.Stale incarnation, at) = Some (occurs.IsStale name server from incarnation)
-accepted_answer d declared kept name server from message (says.Before first, at) = Some (occurs.IsBefore name from)
-accepted_answer d declared kept name server from message (says.Snapshot count, at) = None
-accepted_answer d declared kept name server from message (says.Table, at) = None
-
 -- a return of a node to a call that was made for a purpose
 abbrev pub accepted_return : Deployment → Signature → MemberRecord → ℕ → Purpose → List ℕ → Option Occurrence
-accepted_return d declared kept from (for.Ask name server) message =
-    option_and_then (accepted_answer d declared kept name server from message) (return_in message)
-accepted_return d declared kept from (for.Ring request) message = accepted_table d request message
-accepted_return d declared kept from for.Fetch message = accepted_state declared message
+accepted_return d declared kept from purpose message = return_by d declared (recorded_ask kept) from purpose message
 
 -- what happens to a member of a troupe by what its node hears of another one
 abbrev pub occurrence_by_record : Deployment → Signature → ℕ → MemberRecord → ℕ → Heard Purpose → Option Occurrence
-occurrence_by_record d declared own kept from Dropped = None
-occurrence_by_record d declared own kept from Taken = None
-occurrence_by_record d declared own kept from (Called sender message) = accepted_call d declared own sender message
-occurrence_by_record d declared own kept from (Returned number purpose message) = accepted_return d declared kept from purpose message
+occurrence_by_record d declared own kept from heard = occurrence_by d declared (recorded_ask kept) own from heard
 
 -- and by what comes to it
 abbrev pub happens_by : Deployment → Signature → ℕ → ℕ → MemberRecord → WireActs Purpose → Event → Option Occurrence

@@ -4,6 +4,7 @@ pub mod ViewLemmas
 pub mod SendLemmas
 pub mod RingLemmas
 pub mod BootLemmas
+mod Accepted
 pub mod OtherLemmas
 pub mod GoLemmas
 pub mod NodeLemmas

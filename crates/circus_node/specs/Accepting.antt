@@ -133,30 +133,44 @@ abbrev pub imported_procedure : Signature → Callee → Option ProcedureShape
 imported_procedure declared callee =
     option_and_then (λ (i : Import). procedure_numbered callee.procedure i.procedures) (import_of callee.troupe declared.imports)
 
--- the outcome that the bytes from a place on are of what an ask of a name calls
-abbrev pub outcome_of : {M : Type 0} → Deployment → Signature → MemberState M → AskName → ℕ → List ℕ → Option Outcome
-outcome_of d declared m name at message =
-    option_and_then (λ p. outcome_at p (limit_of d.format) at message)
-    (option_and_then (imported_procedure declared) (called_by m name))
+-- the outcome that the bytes from a place on are of what is called
+abbrev pub outcome_by : Deployment → Signature → Option Callee → ℕ → List ℕ → Option Outcome
+outcome_by d declared callee at message =
+    option_and_then (λ p. outcome_at p (limit_of d.format) at message) (option_and_then (imported_procedure declared) callee)
 
 -- a reply has a count for each module, and an outcome that unpacks
-abbrev pub taken_reply : {M : Type 0} → Deployment → Signature → MemberState M → AskName → List ℕ → ℕ → List ℕ → Option Reply
-taken_reply d declared m name clock at message =
+abbrev pub reply_by : Deployment → Signature → Option Callee → List ℕ → ℕ → List ℕ → Option Reply
+reply_by d declared callee clock at message =
     if length clock == length d.troupes
-    then option_map (λ outcome. record { clock = clock; outcome = outcome }) (outcome_of d declared m name at message)
+    then option_map (λ outcome. record { clock = clock; outcome = outcome }) (outcome_by d declared callee at message)
     else None
 
-abbrev pub taken_answer : {M : Type 0} → Deployment → Signature → MemberState M → AskName → ℕ → ℕ → ReturnHeader → ℕ → List ℕ → Option Occurrence
-taken_answer d declared m name server from (says.Reply clock) at message =
-    option_map (λ reply. comes.Replied name from reply) (taken_reply d declared m name clock at message)
-taken_answer d declared m name server from (says.Stale incarnation) at message = Some (comes.IsStale name server from incarnation)
-taken_answer d declared m name server from (says.Before first) at message = Some (comes.IsBefore name from)
-taken_answer d declared m name server from (says.Snapshot count) at message = None
-taken_answer d declared m name server from says.Table at message = None
+-- what a return says to an ask of a name that calls this
+abbrev pub said_by : Deployment → Signature → Option Callee → AskName → ℕ → ℕ → ReturnHeader → ℕ → List ℕ → Option Occurrence
+said_by d declared callee name server from (says.Reply clock) at message =
+    option_map (λ reply. comes.Replied name from reply) (reply_by d declared callee clock at message)
+said_by d declared callee name server from (says.Stale incarnation) at message = Some (comes.IsStale name server from incarnation)
+said_by d declared callee name server from (says.Before first) at message = Some (comes.IsBefore name from)
+said_by d declared callee name server from (says.Snapshot count) at message = None
+said_by d declared callee name server from says.Table at message = None
 
-abbrev pub accepted_answer : {M : Type 0} → Deployment → Signature → MemberState M → AskName → ℕ → ℕ → List ℕ → Option Occurrence
-accepted_answer d declared m name server from message =
-    option_and_then (λ (read : ReturnHeader × ℕ). taken_answer d declared m name server from read.0 read.1 message) (return_in message)
+abbrev pub answer_by : Deployment → Signature → Option Callee → AskName → ℕ → ℕ → List ℕ → Option Occurrence
+answer_by d declared callee name server from message =
+    option_and_then (λ (read : ReturnHeader × ℕ). said_by d declared callee name server from read.0 read.1 message) (return_in message)
+
+-- the same of an ask of a member
+module _ {M : Type 0} (d : Deployment) (declared : Signature) (m : MemberState M) (name : AskName) where
+  abbrev pub outcome_of : ℕ → List ℕ → Option Outcome
+  outcome_of at message = outcome_by d declared (called_by m name) at message
+
+  abbrev pub taken_reply : List ℕ → ℕ → List ℕ → Option Reply
+  taken_reply clock at message = reply_by d declared (called_by m name) clock at message
+
+  abbrev pub taken_answer : ℕ → ℕ → ReturnHeader → ℕ → List ℕ → Option Occurrence
+  taken_answer server from header at message = said_by d declared (called_by m name) name server from header at message
+
+  abbrev pub accepted_answer : ℕ → ℕ → List ℕ → Option Occurrence
+  accepted_answer server from message = answer_by d declared (called_by m name) name server from message
 
 -- ---- returns to a request and to a state request
 
@@ -195,15 +209,22 @@ accepted_state declared message =
 
 -- ---- what is heard
 
--- a return of a node to a call that was made for a purpose
-abbrev pub accepted_return : {M : Type 0} → Deployment → Signature → MemberState M → ℕ → Purpose → List ℕ → Option Occurrence
-accepted_return d declared m from (for.Ask name server) message = accepted_answer d declared m name server from message
-accepted_return d declared m from (for.Ring request) message = accepted_table d request message
-accepted_return d declared m from for.Fetch message = accepted_state declared message
+-- a return of a node to a call that was made for a purpose, where asks call these
+abbrev pub return_by : Deployment → Signature → (AskName → Option Callee) → ℕ → Purpose → List ℕ → Option Occurrence
+return_by d declared called from (for.Ask name server) message = answer_by d declared (called name) name server from message
+return_by d declared called from (for.Ring request) message = accepted_table d request message
+return_by d declared called from for.Fetch message = accepted_state declared message
 
--- what happens to a member by what it hears from a node
+-- what happens to a member of a troupe by what its node hears from another one
+abbrev pub occurrence_by : Deployment → Signature → (AskName → Option Callee) → ℕ → ℕ → Heard Purpose → Option Occurrence
+occurrence_by d declared called own from Dropped = None
+occurrence_by d declared called own from Taken = None
+occurrence_by d declared called own from (Called sender message) = accepted_call d declared own sender message
+occurrence_by d declared called own from (Returned number purpose message) = return_by d declared called from purpose message
+
+-- and to a member, of whose asks those that are open say themselves what they call
+abbrev pub accepted_return : {M : Type 0} → Deployment → Signature → MemberState M → ℕ → Purpose → List ℕ → Option Occurrence
+accepted_return d declared m from purpose message = return_by d declared (called_by m) from purpose message
+
 abbrev pub occurrence_of_heard : {M : Type 0} → Deployment → Signature → MemberState M → ℕ → Heard Purpose → Option Occurrence
-occurrence_of_heard d declared m from Dropped = None
-occurrence_of_heard d declared m from Taken = None
-occurrence_of_heard d declared m from (Called sender message) = accepted_call d declared m.place.troupe sender message
-occurrence_of_heard d declared m from (Returned number purpose message) = accepted_return d declared m from purpose message
+occurrence_of_heard d declared m from heard = occurrence_by d declared (called_by m) m.place.troupe from heard

@@ -362,6 +362,26 @@ fn perform(
         came ≡ making.consequences (making.table_answers ring.old sender request.now) []) }
     ensures kept { OnOk result (IsRingOf deployment.now ring.new) }
 {
+    let effects = answer_request(alloc, deployment, ring, sender, request)?;
+    Consequences::of(alloc, effects, None)
+}
+
+/// What the Ringmaster of a program makes of a request that was accepted: the return to its call, which has the table
+/// (docs/PROTOCOL.md, "The Ringmaster"). `NoMemory` where memory runs out.
+pub fn answer_request(
+    alloc: Global,
+    deployment: &Deployment,
+    ring: &mut Ring,
+    sender: Caller,
+    request: &Request,
+) -> Result<Effects, NoMemory>
+    requires ring { IsRingOf deployment.now ring.old }
+    requires about { ring_table.troupe_of request.now < length ring.old.troupes }
+    ensures ring { OnOk result (ring.new ≡ ring_table.kept_by ring.old request.now) }
+    ensures made { IfOk result (λ made.
+        made ≡ making.table_answers ring.old sender request.now) }
+    ensures kept { OnOk result (IsRingOf deployment.now ring.new) }
+{
     let table = ring.perform(request)?;
     let message = table_message(alloc, &table)?;
     let mut effects = ListOf::new(alloc);
@@ -369,7 +389,7 @@ fn perform(
         caller: sender,
         message,
     })?;
-    Consequences::of(alloc, effects, None)
+    Ok(effects)
 }
 
 // A table as a return.

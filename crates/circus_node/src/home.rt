@@ -12,17 +12,15 @@ use std::alloc::Global;
 
 /// Where the member of a node stands, and how it begins.
 #[derive(Debug, Drop)]
-pub(crate) struct Home {
+pub struct Home {
+    /// The node, its troupe and how that collates, and the troupe of each node.
     pub place: Place,
+    /// As a founder of its troupe, or as a spare.
     pub beginning: Beginning,
 }
 
-/// None at the Ringmaster's node.
-pub(crate) fn home_of(
-    alloc: Global,
-    deployment: &Deployment,
-    node: u16,
-) -> Result<Option<Home>, NoMemory>
+/// Where the member of a node of a program stands at boot. `None` at the Ringmaster's node. `NoMemory` is the one fault.
+pub fn home_of(alloc: Global, deployment: &Deployment, node: u16) -> Result<Option<Home>, NoMemory>
     ensures { IfOk result (λ home. home ≡ booting.home_of deployment.now node) }
 {
     let Some(number) = troupe_at(deployment, node) else {

@@ -26,11 +26,14 @@ mod returns_accepted;
 mod sending;
 mod station;
 
-pub use accepting::accept;
+pub use accepting::{accept, accept_by_record};
+pub use acting::answer_request;
 pub use behaviour_laws::{boots_depend_on_behaviours, steps_depend_on_behaviours};
 pub use calls_accepted::accept_request;
 pub use circus_member_rules::Difference;
 pub use event::{Differences, Event, Give, Gives, Outputs, StepFault};
+pub use home::{Home, home_of};
 pub use laws::{all_nodes_may_boot, members_know_what_they_noticed};
 pub use node_core::NodeCore;
 pub use program::troupe_at;
+pub use sending::{add_all_gives, add_gives, hand_all};

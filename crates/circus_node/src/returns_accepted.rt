@@ -3,11 +3,10 @@ ghost use Rattle.std.specs.Prelude.{◌≡◌, ◌≤◌, ◌==◌, length, IfOk
 ghost use Rattle.std.specs.List.{list_any, list_all};
 ghost use Rattle.circus_collate.specs.declared.view.Entry.{Entry as Registered};
 ghost use Rattle.circus_ring.specs.RingTable.{troupe_of};
-ghost use Rattle.circus_member_rules.specs.OpenAsks.{asking_of};
-ghost use Rattle.circus_member_rules.specs.Happening.{CanHappen, IsReplyTo};
+ghost use Rattle.circus_member_rules.specs.Happening.{CanHappen};
 ghost use Rattle.circus_node.specs.Accepting as accepting;
 ghost use Rattle.circus_node.specs.Accepting.{IsMemberOf};
-ghost use Rattle.circus_node.specs.Seen.Can.{IsToldRightly, IsGivenRightly};
+ghost use Rattle.circus_node.specs.Seen.Can.{IsReplyOf, IsSaidRightly, IsToldRightly, IsGivenRightly, IsReturnedRightly};
 
 use crate::bodies::{outcome_at, restored_in};
 use crate::heads::{return_in, table_at};
@@ -47,32 +46,28 @@ fn called_by<M: Module>(member: &Member<M>, name: AskName) -> Option<Callee>
     }
 }
 
-// A reply to an ask of a name: the clock, and the outcome that the bytes from a place on are.
-fn take_reply<M: Module>(
+// A reply to an ask that calls this: the clock, and the outcome that the bytes from a place on are.
+fn take_reply(
     alloc: Global,
     deployment: &Deployment,
-    member: &Member<M>,
-    name: AskName,
+    signature: &Signature,
+    callee: Option<Callee>,
     clock: Clock,
     at: usize,
     message: &Parts,
 ) -> Result<Option<Reply>, NoMemory>
-    requires { IsMemberOf deployment.now member.now }
     ensures reply { IfOk result (λ reply.
-        reply ≡ accepting.taken_reply deployment.now
-        (M.declared member.now.performing.hosted) member.now name clock at message.now) }
+        reply ≡ accepting.reply_by deployment.now signature.now callee clock at message.now) }
     ensures fits { IfOk result (λ reply.
-        IfSome reply (λ r.
-        IfSome (asking_of member.now.asks name)
-        (IsReplyTo (M.declared member.now.performing.hosted) (length member.now.known.views) r))) }
+        IfSome reply (IsReplyOf signature.now (length deployment.now.troupes) callee)) }
 {
     if clock.len() != deployment.troupes.len() {
         return Ok(None);
     }
-    let Some(callee) = called_by(member, name) else {
+    let Some(callee) = callee else {
         return Ok(None);
     };
-    let Some(procedure) = imported_procedure(member.signature(), callee) else {
+    let Some(procedure) = imported_procedure(signature, callee) else {
         return Ok(None);
     };
     let most = limit_of(deployment.format) as usize;
@@ -80,29 +75,30 @@ fn take_reply<M: Module>(
     Ok(outcome.map(|outcome| Reply { clock, outcome }))
 }
 
-// A return of a node to an ask.
-fn take_answer<M: Module>(
+// A return of a node to an ask that calls this.
+fn take_answer(
     alloc: Global,
     deployment: &Deployment,
-    member: &Member<M>,
+    signature: &Signature,
+    callee: Option<Callee>,
     name: AskName,
     server: u16,
     from: u16,
     message: &Parts,
 ) -> Result<Option<Occurrence>, NoMemory>
-    requires { IsMemberOf deployment.now member.now }
     ensures accepted { IfOk result (λ accepted.
-        accepted ≡ accepting.accepted_answer deployment.now
-        (M.declared member.now.performing.hosted) member.now name server from message.now) }
+        accepted ≡ accepting.answer_by deployment.now signature.now callee name server from
+        message.now) }
     ensures can { IfOk result (λ accepted.
-        IfSome accepted (CanHappen (M.declared member.now.performing.hosted) member.now)) }
+        IfSome accepted
+        (IsSaidRightly signature.now (length deployment.now.troupes) callee name)) }
 {
     let Some((header, at)) = return_in(alloc, message)? else {
         return Ok(None);
     };
     match header {
         ReturnHeader::Reply(clock) => {
-            let reply = take_reply(alloc, deployment, member, name, clock, at, message)?;
+            let reply = take_reply(alloc, deployment, signature, callee, clock, at, message)?;
             Ok(reply.map(|reply| Occurrence::Replied { name, from, reply }))
         }
         ReturnHeader::Stale(incarnation) => Ok(Some(Occurrence::IsStale {
@@ -226,6 +222,7 @@ fn take_state(
 
 /// What happens to a member by a return of a node to a call that was made for this purpose. `None` where the return isn't
 /// accepted (docs/PROTOCOL.md, "Accepted messages").
+#[tactic(auto, using(crate::proofs::Accepted::answer_can))]
 pub(crate) fn accept_return<M: Module>(
     alloc: Global,
     deployment: &Deployment,
@@ -243,9 +240,43 @@ pub(crate) fn accept_return<M: Module>(
 {
     match purpose {
         Purpose::Ask(name, server) => {
-            take_answer(alloc, deployment, member, name, server, from, message)
+            let callee = called_by(member, name);
+            let signature = member.signature();
+            take_answer(
+                alloc, deployment, signature, callee, name, server, from, message,
+            )
         }
         Purpose::Ring(request) => take_table(alloc, deployment, request, message),
         Purpose::Fetch => take_state(alloc, member.signature(), message),
+    }
+}
+
+/// Such a return to a call of a member of which this is the record in the end: that says what its asks call.
+#[tactic(auto, using(crate::proofs::Accepted::answer_returned))]
+pub(crate) fn accept_return_by_record(
+    alloc: Global,
+    deployment: &Deployment,
+    signature: &Signature,
+    record: &MemberRecord,
+    from: u16,
+    purpose: Purpose,
+    message: &Parts,
+) -> Result<Option<Occurrence>, NoMemory>
+    ensures accepted { IfOk result (λ accepted.
+        accepted ≡ accepting.return_by deployment.now signature.now
+        (accepting.recorded_ask record.now) from purpose message.now) }
+    ensures can { IfOk result (λ accepted.
+        IfSome accepted (IsReturnedRightly signature.now (length deployment.now.troupes)
+        (accepting.recorded_ask record.now))) }
+{
+    match purpose {
+        Purpose::Ask(name, server) => {
+            let callee = recorded_ask(record, name);
+            take_answer(
+                alloc, deployment, signature, callee, name, server, from, message,
+            )
+        }
+        Purpose::Ring(request) => take_table(alloc, deployment, request, message),
+        Purpose::Fetch => take_state(alloc, signature, message),
     }
 }

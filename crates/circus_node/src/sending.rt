@@ -15,7 +15,7 @@ use circus_wire::{Batch, Batches, Wire};
 const LONGEST_IN_FORMAT_1: usize = PART * 255;
 
 /// Adds the datagrams of a batch.
-pub(crate) fn add_gives(batch: Batch, gives: &mut Gives) -> Result<(), NoMemory>
+pub fn add_gives(batch: Batch, gives: &mut Gives) -> Result<(), NoMemory>
     ensures { OnOk result (gives.new ≡ gives.old ++ sending.gives_of batch) }
 {
     let Batch { to, datagrams } = batch;
@@ -26,7 +26,7 @@ pub(crate) fn add_gives(batch: Batch, gives: &mut Gives) -> Result<(), NoMemory>
 }
 
 /// Adds those of each batch.
-pub(crate) fn add_all_gives(batches: Batches, gives: &mut Gives) -> Result<(), NoMemory>
+pub fn add_all_gives(batches: Batches, gives: &mut Gives) -> Result<(), NoMemory>
     ensures { OnOk result (gives.new ≡ gives.old ++ flat_map sending.gives_of batches) }
 {
     for batch in batches.into_items() {
@@ -50,7 +50,7 @@ fn is_sendable(format: u8, message: &Message) -> bool
 
 /// Hands calls and returns to the pairs in their order, and adds what is sent. After a fault some of them may have been
 /// handed over.
-pub(crate) fn hand_all(
+pub fn hand_all(
     format: u8,
     wire: &mut Wire<Purpose>,
     effects: Effects,

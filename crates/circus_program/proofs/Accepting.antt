@@ -2,6 +2,8 @@
 pub mod Noting
 pub mod Spares
 pub mod Serving
+pub mod RingQuiet
+pub mod RingGiving
 pub mod Recorded
 pub mod Accepted
 pub mod Written

@@ -55,16 +55,6 @@ events_came (stepped t at event made outputs) numbered =
     let at_is : at ≡ 0 + length (came_in t) = (let many = as_many t numbered.0 in let is = numbered.1 in omega (arith, many, is)) in
     (λ j. events_came t numbered.0 j ++ (at_is j, event) ∷ []) ∙ sym (events_both 0 (came_in t) (Some event ∷ []))
 
--- and then others
-pub events_then : (t lived : Trace) (event : Event) (others : List (Option Event)) → IsNumbered t → IsNumbered lived → came_in lived ≡ came_in t ++ Some event ∷ others
-    → events_of lived ≡ events_of t ++ (now t + 1, event) ∷ events_from (now t + 1 + 1) others
-events_then t lived event others one two came =
-    let next : 0 + length (came_in t) ≡ now t + 1 = (let many = as_many t one in omega (arith, many)) in
-    events_came lived two
-    ∙ ap (events_from 0) came
-    ∙ events_both 0 (came_in t) (Some event ∷ others)
-    ∙ (λ j. sym (events_came t one) j ++ (next j, event) ∷ events_from (next j + 1) others)
-
 -- ---- a run of a member
 
 module _ (d : Deployment) (program : List Behaviour) (given : Given) (number : ℕ) (t : Trace) (kept : MemberRecord) (hosts : troupe_at d given.node ≡ Some number)

@@ -1,12 +1,14 @@
 -- Whose declarations are to come behind a trace.
-use Rattle.std.proofs.Common.{ℕ, ◌≡◌, ◌∙◌, Bool, true, false, if◌then◌else◌, List, [], ◌∷◌, Option, None, Some, refl, sym, ap, eq-eqb}
+use Rattle.std.proofs.Common.{ℕ, ◌≡◌, ◌∙◌, inl, inr, Bool, true, false, if◌then◌else◌, List, [], ◌∷◌, Option, None, Some, refl, sym, ap, eq-eqb}
 use Rattle.std.specs.Prelude.{◌==◌, option_and_then}
 use Rattle.std.proofs.lemmas.Bool.{eqb-true}
 use Rattle.std.proofs.lemmas.Option.{same_Some}
 use Rattle.circus_node.specs.Trace.{Trace, booted, stepped}
+use Rattle.circus_node.specs.declared.event.Event.{Event}
 use Rattle.circus_node.specs.declared.event.Event.TheVariants as comes
+use Rattle.circus_dues.specs.NodeRuns.{BeginsWith}
 use Rattle.circus_verdict.specs.Audited.{Awaits}
-use Rattle.circus_verdict.specs.Seen.Living.{behind, unless_due, awaited_in}
+use Rattle.circus_verdict.specs.Seen.Living.{behind, unless_due, awaited_by, awaited_in}
 
 -- where these are to come, they are found
 pub awaited_alone : (t : Trace) (nodes : List ℕ) → Awaits t nodes → awaited_in t ≡ Some nodes
@@ -45,3 +47,15 @@ awaited_so (stepped t at comes.Tick made outputs) nodes is =
     let parts = unless_is outputs.suspects (awaited_in t) nodes is in (awaited_so t [] parts.0, parts.1)
 awaited_so (stepped t at comes.Join made outputs) nodes is =
     let parts = unless_is outputs.suspects (awaited_in t) nodes is in (awaited_so t [] parts.0, parts.1)
+
+-- where one that was due did not come, or another one did, none are to come later either
+none_later : (event : Event) (suspects : List ℕ) (o : Option (List ℕ)) → o ≡ None → option_and_then (awaited_by event suspects) o ≡ None
+none_later event suspects o none = ap (option_and_then (awaited_by event suspects)) none
+
+pub some_before : (t u : Trace) → BeginsWith t u → (nodes : List ℕ) → awaited_in t ≡ Some nodes → awaited_in u ≡ None → ⊥
+some_before t u began nodes some none = absurd (let clash : ◌≡◌ {A = Option (List ℕ)} (Some nodes) None = sym some ∙ none_grown t u began none in cc)
+  where
+    none_grown : (t u : Trace) → BeginsWith t u → awaited_in u ≡ None → awaited_in t ≡ None
+    none_grown (booted made outputs) u same none = ap awaited_in (sym same) ∙ none
+    none_grown (stepped t at event made outputs) u (inl same) none = ap awaited_in (sym same) ∙ none
+    none_grown (stepped t at event made outputs) u (inr began) none = none_later event outputs.suspects (awaited_in t) (none_grown t u began none)

@@ -1,5 +1,5 @@
 -- What is said of the record of a member whose node came through its events.
-use Rattle.std.proofs.Common.{ℕ, zero, suc, ◌≡◌, ◌∙◌, ◌≤◌, ◌⊎◌, inl, inr, true, false, List, [], map, length, Some, refl, sym, ap, subst, arith}
+use Rattle.std.proofs.Common.{ℕ, zero, suc, ◌≡◌, ◌∙◌, ◌≤◌, ◌⊎◌, inl, inr, true, false, List, [], length, Some, refl, sym, ap, subst, arith}
 use Rattle.std.specs.Prelude.{slice_get}
 use Rattle.std.proofs.lemmas.Option.{same_Some}
 use Rattle.circus_value.specs.ValueTree.{ValueTree}
@@ -18,7 +18,6 @@ use Rattle.circus_node.specs.Accepting.{troupe_at}
 use Rattle.circus_member_theory.specs.Stands.{Stands}
 use Rattle.circus_headline_theory.specs.NodeRun.{state_at_activation}
 use Rattle.circus_audit.specs.declared.given.Given.{Given}
-use Rattle.circus_audit.specs.declared.given.GivenEvent.{GivenEvent}
 use Rattle.circus_verdict.specs.declared.verdict.Verdict.{Verdict}
 use Rattle.circus_verdict.specs.declared.verdict.Verdict.TheVariants as says
 use Rattle.circus_verdict.specs.Audited.{said_in, said_of, HasRunAt, IsAuditedBy, IsAudited}
@@ -26,8 +25,6 @@ use Rattle.circus_verdict.specs.Beside.{IsFirstWrong}
 use Rattle.circus_verdict.specs.Verdict.{StandsWhereActive, IsVerdict}
 use Rattle.circus_verdict.specs.Seen.Judged.{state_in, IsBeyond, IsInAnother, IsWrongLater, IsJudged}
 use Rattle.circus_verdict.specs.Seen.Judging.{HasRunSo}
-use Rattle.circus_verdict.specs.Seen.Living.{came_in}
-use Rattle.circus_verdict.proofs.Auditing.{came_events, audited_is}
 use Rattle.circus_verdict.proofs.Standing.{IsAllRight, right_stands, stands_right, state_began}
 
 -- ---- what is said of a member
@@ -46,12 +43,6 @@ module _ (d : Deployment) (program : List Behaviour) (given : Given) where
   -- ---- by the record that its member has
 
   module _ (kept : MemberRecord) (begun : List ValueTree) (ran : HasRunSo d program given kept begun) where
-    came : came_in ran.lived ≡ map (λ (e : GivenEvent). e.event) given.events
-    came = sym (came_events ran.lived) ∙ ap (map (λ (e : GivenEvent). e.event)) (sym ran.are.events)
-
-    pub not_said : (given.member ≡ Some (said_of kept) → ⊥) → IsAudited d program given → ⊥
-    not_said not a = not (audited_is d program given ran.number ran.lived kept ran.hosts ran.run ran.are.numbered came a.lived a.is).says
-
     said_by : given.member ≡ Some (said_of kept) → IsAuditedBy d program given ran.lived
     said_by is = record {
       events = ran.are.events;

@@ -1,22 +1,29 @@
 -- What may stand in a record of a program may come to the node.
-use Rattle.std.proofs.Common.{ℕ, zero, suc, ◌≡◌, ◌≤◌, ◌+◌, List, [], ◌∷◌, length, All, Option, None, Some, ap, subst, arith}
+use Rattle.std.proofs.Common.{ℕ, zero, suc, ◌≡◌, ◌≤◌, ◌+◌, List, [], ◌∷◌, length, All, Option, None, Some, sym, ap, ◌∙◌, subst, arith}
+use Rattle.std.specs.Prelude.{slice_get}
+use Rattle.std.proofs.lemmas.Option.{same_Some}
 use Rattle.std.specs.List.{AllByRecursion}
 use Rattle.std.proofs.lemmas.List.Elements.{All-from_recursion}
 use Rattle.circus_value.specs.Parts.{AreOctets}
 use Rattle.circus_collate.specs.declared.view.View.{View}
 use Rattle.circus_transfer.specs.declared.joiner.Joiner.{Joiner}
 use Rattle.circus_transfer.specs.declared.joiner.Joiner.TheVariants.{Outside, Asking, Fetching, Active}
+use Rattle.circus_model.specs.Behaviour.{Behaviour}
 use Rattle.circus_model.specs.declared.signature.Signature.{Signature}
 use Rattle.circus_record.specs.declared.record.MemberRecord.{MemberRecord}
 use Rattle.circus_node.specs.Accepting.{troupe_at}
 use Rattle.circus_config.specs.declared.plan.Plan.{Plan}
 use Rattle.circus_node.specs.declared.event.Event.{Event}
 use Rattle.circus_node.specs.declared.event.Event.TheVariants as comes
-use Rattle.circus_audit.specs.Possible.{AreBytes, CanCome, CanHappen, IsMember, IsKept, IsPossible}
+use Rattle.circus_audit.specs.Possible.{AreBytes, CanCome, CanHappen, IsMember, IsKept, IsPossible, declared_by}
 use Rattle.circus_audit.specs.declared.given.Given.{Given}
 use Rattle.circus_audit.specs.declared.given.GivenEvent.{GivenEvent}
-use Rattle.circus_verdict.specs.Seen.Judging.{FewRuns}
+use Rattle.circus_plan_modules.specs.Loaded.{behaviours_in}
+use Rattle.circus_dues.specs.Seen.Sound.{IsSayable}
+use Rattle.circus_verdict.specs.Seen.Judging.{FewRuns, IsCounted, MaySay}
 use Rattle.circus_verdict.specs.Seen.Living.{ComesSo, MayCome}
+use Rattle.circus_verdict.proofs.Possible.Sayable.{member_is_sayable}
+use Rattle.circus_verdict.proofs.Possible.Whole.{declares_so}
 
 octets : (bytes : List ℕ) → AreBytes bytes → AreOctets bytes
 octets [] are k = omega arith
@@ -51,3 +58,22 @@ module _ (plan : Plan) (given : Given) where
 
   pub few_runs : IsPossible plan given → FewRuns given.member
   few_runs possible = few_of (length given.events) (troupe_at plan.deployment given.node) given.member given.views possible.kept
+
+  -- ---- a member
+
+  says_so : (number : ℕ) (b : Behaviour) (hosted : Option ℕ) (member : Option MemberRecord) (views : Option (List View)) → IsKept plan (length given.events) hosted member views → hosted ≡ Some number
+      → slice_get (behaviours_in plan) number ≡ Some b → (kept : MemberRecord) → member ≡ Some kept → (modules : ℕ) → All (IsCounted modules) kept.runs → IsSayable b.declared modules kept
+  says_so number b (Some own) (Some said) None is at there kept same modules counts =
+      let own_is : own ≡ number = same_Some own number at in
+      let kept_is : said ≡ kept = same_Some said kept same in
+      let declared : is.0 ≡ b.declared = same_Some is.0 b.declared (sym is.1 ∙ ap (declared_by plan) own_is ∙ declares_so plan number b there) in
+      subst (λ (s : Signature). IsSayable s modules kept) declared
+      (member_is_sayable plan is.0 (length given.events) modules kept kept.phase counts (subst (λ (k : MemberRecord). IsMember plan is.0 (length given.events) k k.phase) kept_is is.2))
+  says_so number b (Some own) (Some said) (Some views) is at there kept same modules counts = absurd is
+  says_so number b (Some own) None views is at there kept same modules counts =
+      absurd (let clash : ◌≡◌ {A = Option MemberRecord} None (Some kept) = same in cc)
+  says_so number b None member views is at there kept same modules counts = absurd (let clash : ◌≡◌ {A = Option ℕ} None (Some number) = at in cc)
+
+  pub may_say : IsPossible plan given → MaySay plan.deployment (behaviours_in plan) given
+  may_say possible number b kept at there member_is counts =
+      says_so number b (troupe_at plan.deployment given.node) given.member given.views possible.kept at there kept member_is (length plan.deployment.troupes) counts

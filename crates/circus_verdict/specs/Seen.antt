@@ -3,3 +3,5 @@ pub mod Living
 pub mod Shape
 pub mod Judged
 pub mod Judging
+pub mod Station
+pub mod Ringing

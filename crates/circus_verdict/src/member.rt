@@ -1,58 +1,157 @@
-// What is said of the record of a member whose node lived through what the record says.
-ghost use Rattle.std.specs.Prelude.{◌≡◌, ◌<◌, ◌≤◌, ◌+◌, [], true, length, Some, slice_get, IfOk};
+// What is said of a record of a node that hosts a member.
+ghost use Rattle.std.specs.Prelude.{◌≡◌, ◌<◌, ◌≤◌, ◌+◌, [], ◌∷◌, true, false, length, map, All, None, Some, slice_get, IfOk};
 ghost use Rattle.std.specs.Bool.{Decides};
 ghost use Rattle.circus_limits.specs.Limits.{most_modules};
+ghost use Rattle.circus_collate.specs.Deployment.{IsDeployment};
 ghost use Rattle.circus_model.specs.Agree.{Agree};
 ghost use Rattle.circus_model.specs.Behaviour.{Behaviour, behaviours};
 ghost use Rattle.circus_model.specs.History as history_specs;
+ghost use Rattle.circus_record.specs.declared.record.AskRecord.{AskRecord as Asked};
 ghost use Rattle.circus_performing.specs.Performing as performing;
 ghost use Rattle.circus_performing.specs.Performing.{before_any};
-ghost use Rattle.circus_verdict.specs.Audited.{said_of};
+ghost use Rattle.circus_node.specs.Booting.{AreOfTroupes};
+ghost use Rattle.circus_node.specs.Booting as booting;
+ghost use Rattle.circus_world.specs.Legal as legal;
+ghost use Rattle.circus_verdict.specs.Audited.{JoinsSo};
 ghost use Rattle.circus_verdict.specs.Verdict.{IsVerdict};
 ghost use Rattle.circus_verdict.specs.Seen.Judged.{state_in, IsJudged};
-ghost use Rattle.circus_verdict.specs.Seen.Judging.{FewRuns, HasRunSo};
+ghost use Rattle.circus_verdict.specs.Seen.Judging.{FewRuns, HasCounts, HasRunSo, IsCounted, MaySay, whole_record};
+ghost use Rattle.circus_verdict.specs.Seen.Living.{HasCome};
 
 use crate::Verdict;
 use crate::beside::first_wrong_run;
+use crate::living::{Subject, live_through};
 use crate::same::Same;
-use circus_audit::Given;
+use circus_audit::{Given, GivenEvent};
 use circus_collate::Deployment;
+use circus_limits::MOST_ASKS;
 use circus_model::{History, Module, Run, run_alone};
-use circus_node::troupe_at;
-use circus_record::MemberRecord;
+use circus_node::{Home, troupe_at};
+use circus_record::{AskRecord, MemberRecord, RunRecord};
 use circus_transfer::Joiner;
-use circus_value::{NoMemory, State};
+use circus_value::{Clock, ListOf, NoMemory, State};
 use std::alloc::Global;
 
-/// The node lived through what the record says, and its member, which became active with this state, has this record then.
-pub(crate) fn judge_member<M: Module>(
+/// What is said of a record of a node that hosts a member, of which the first event is boot.
+pub(crate) fn audit_member<M: Module>(
     alloc: Global,
     given: &Given,
-    kept: &MemberRecord,
-    activation_state: &State,
+    boot: &GivenEvent,
+    later: &[GivenEvent],
     deployment: &Deployment,
     modules: &[M],
+    home: &Home,
 ) -> Result<Verdict, NoMemory>
+    requires deployment { IsDeployment deployment.now }
+    requires modules { AreOfTroupes deployment.now (map M.declared modules.now) }
     requires agree { Agree (behaviours M.declared M.turn M.first modules.now) }
-    requires few_modules { length modules.now ≤ most_modules }
-    requires ran { HasRunSo deployment.now
-        (behaviours M.declared M.turn M.first modules.now) given.now kept.now
-        activation_state.now }
+    requires within { given.now.node < length deployment.now.nodes }
+    requires home { booting.home_of deployment.now given.now.node ≡ Some home.now }
     requires few { FewRuns given.now.member }
+    requires says { MaySay deployment.now
+        (behaviours M.declared M.turn M.first modules.now) given.now }
+    requires boot { boot.now.event ≡ None }
+    requires come { All (HasCome deployment.now given.now.node) later.now }
+    requires joins { JoinsSo (legal.is_spare deployment.now given.now.node) given.now.events }
+    requires events { given.now.events ≡ boot.now ∷ later.now }
     ensures { IfOk result
         (IsVerdict deployment.now
         (behaviours M.declared M.turn M.first modules.now) given.now) }
 {
+    let module = &modules[usize::from(home.place.troupe)];
     let Some(said) = &given.member else {
         return Ok(Verdict::NotARun);
     };
-    if !says(said, kept) {
+    if !are_counted(said.runs.as_slice(), deployment.troupes.len()) {
         return Ok(Verdict::NotARun);
     }
-    if !is_active(said.phase) {
+    let active = is_active(said.phase);
+    if !says_no_more(active, said) {
+        return Ok(Verdict::NotARun);
+    }
+    let nothing = has_done_nothing(alloc, said.phase, module.first_state()?);
+    let of = Subject {
+        alloc,
+        deployment,
+        home,
+        signature: module.signature(),
+        kept: whole(active, said, &nothing),
+    };
+    let Some(lived) = live_through(&of, module, boot, later)? else {
+        return Ok(Verdict::NotARun);
+    };
+    if !active {
         return Ok(Verdict::Yes);
     }
-    judge_active(alloc, given, said, activation_state, deployment, modules)
+    judge_active(alloc, given, said, lived.dues.began(), deployment, modules)
+}
+
+// Of an active member all is said, and of another one nothing but its phase.
+fn says_no_more(active: bool, said: &MemberRecord) -> bool
+    ensures { Decides result (active ≡ false → said.now ≡ before_any said.now.phase []) }
+{
+    active || is_apart(said)
+}
+
+// The record of a member: what is said of it where it is active, else that of one that has done nothing.
+fn whole<'r>(active: bool, said: &'r MemberRecord, nothing: &'r MemberRecord) -> &'r MemberRecord
+    ensures { result.now ≡ whole_record active said.now nothing.now }
+{
+    if active { said } else { nothing }
+}
+
+// The record of a member that has done nothing.
+fn has_done_nothing(alloc: Global, phase: Joiner, first: State) -> MemberRecord
+    ensures { result ≡ before_any phase first }
+{
+    MemberRecord {
+        phase,
+        from: 0,
+        active_at: 0,
+        count: 0,
+        runs: ListOf::new(alloc),
+        state: first,
+    }
+}
+
+// Each run made no more asks than one may, and each clock that it shows has a count for each of so many modules.
+fn are_counted(runs: &[RunRecord], modules: usize) -> bool
+    ensures { Decides result (All (IsCounted modules) runs.now) }
+{
+    for run in runs {
+        if !is_counted(run, modules) {
+            return false;
+        }
+    }
+    true
+}
+
+fn is_counted(run: &RunRecord, modules: usize) -> bool
+    ensures { Decides result (IsCounted modules run.now) }
+{
+    run.asks.len() <= usize::from(MOST_ASKS)
+        && have_counts(run.asks.as_slice(), modules)
+        && has_counts(&run.end, modules)
+}
+
+fn have_counts(asks: &[AskRecord], modules: usize) -> bool
+    ensures { Decides result (All (λ (ask : Asked). HasCounts modules ask.after) asks.now) }
+{
+    for ask in asks {
+        if !has_counts(&ask.after, modules) {
+            return false;
+        }
+    }
+    true
+}
+
+fn has_counts(clock: &Option<Clock>, modules: usize) -> bool
+    ensures { Decides result (HasCounts modules clock.now) }
+{
+    match clock {
+        Some(counts) => counts.len() == modules,
+        None => true,
+    }
 }
 
 fn is_active(phase: Joiner) -> bool
@@ -140,24 +239,11 @@ fn is_state_behind(runs: &[Run], first: &State, count: u32, state: &State) -> bo
     }
 }
 
-/// What is said of a member is what its lines say of this record.
-fn says(said: &MemberRecord, kept: &MemberRecord) -> bool
-    ensures { Decides result (said.now ≡ said_of kept.now) }
+// Nothing is said of a member but its phase.
+fn is_apart(said: &MemberRecord) -> bool
+    ensures { Decides result (said.now ≡ before_any said.now.phase []) }
 {
-    match kept.phase {
-        Joiner::Active(_) => said.is_same(kept),
-        Joiner::Fetching(_) => is_empty(said, Joiner::Fetching(0)),
-        Joiner::Outside => is_empty(said, Joiner::Outside),
-        Joiner::Asking => is_empty(said, Joiner::Asking),
-    }
-}
-
-// It is that of a member in a phase, and nothing else is said of it.
-fn is_empty(said: &MemberRecord, phase: Joiner) -> bool
-    ensures { Decides result (said.now ≡ before_any phase []) }
-{
-    said.phase.is_same(&phase)
-        && said.from == 0
+    said.from == 0
         && said.active_at == 0
         && said.count == 0
         && said.runs.is_empty()

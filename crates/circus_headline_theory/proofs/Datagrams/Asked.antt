@@ -108,7 +108,7 @@ module _ (place : Place) (boot : List View) (begins : Joiner) (first : List Valu
     of : IsEntry step e
     asked_now : of.ask.asked ≡ step
 
-  later_entry : (step at : ℕ) → step ≤ at → (e : AskName × Asking) → IsEntry step e → IsEntry at e
+  pub later_entry : (step at : ℕ) → step ≤ at → (e : AskName × Asking) → IsEntry step e → IsEntry at e
   later_entry step at le e o = record { number = o.number; run = o.run; ask = o.ask; index = o.index; run_is = o.run_is; ask_is = o.ask_is; by_then = (let low = o.by_then in omega (arith, low, le)); header_is = o.header_is; body_is = o.body_is }
 
   -- ---- those that are new
@@ -187,7 +187,7 @@ module _ (place : Place) (boot : List View) (begins : Joiner) (first : List Valu
 
   -- ---- those that are open
 
-  opened_all : (k : Knowing) (step : ℕ) (new asks : List (AskName × Asking)) → All (IsEntry step) new → All (IsEntry step) asks → All (IsEntry step) (fold (opened_one place boot k) asks new)
+  pub opened_all : (k : Knowing) (step : ℕ) (new asks : List (AskName × Asking)) → All (IsEntry step) new → All (IsEntry step) asks → All (IsEntry step) (fold (opened_one place boot k) asks new)
   opened_all k step [] asks new_all all = all
   opened_all k step (e ∷ new) asks new_all all =
       opened_all k step new (opened_one place boot k asks e) (All-tail (IsEntry step) e new new_all) (by_known (slice_get k.views e.1.header.server))
@@ -230,7 +230,7 @@ module _ (place : Place) (boot : List View) (begins : Joiner) (first : List Valu
         by_known None = (refl, refl)
         by_known (Some view) = (refl, refl)
 
-    behind_all : (p : Past) (at : ℕ) (o : Occurrence) (asks : List (AskName × Asking)) → All (IsEntry step) asks → All (IsEntry step) (asks_behind place boot (followed p at o) asks)
+    pub behind_all : (p : Past) (at : ℕ) (o : Occurrence) (asks : List (AskName × Asking)) → All (IsEntry step) asks → All (IsEntry step) (asks_behind place boot (followed p at o) asks)
     behind_all p at (comes.Replied name from reply) asks all = changed_all name (with_reply from reply) (λ a. refl) (λ a. refl) asks all
     behind_all p at (comes.IsBefore name from) asks all = changed_all name (with_before from) (λ a. refl) (λ a. refl) asks all
     behind_all p at (comes.IsStale name server from incarnation) asks all =
@@ -247,7 +247,7 @@ module _ (place : Place) (boot : List View) (begins : Joiner) (first : List Valu
     behind_all p at (comes.Declared node) asks all = all
     behind_all p at comes.Joins asks all = all
 
-  new_all : (q : Past) → All (IsEntry (now q)) (new_asks place boot kept q)
+  pub new_all : (q : Past) → All (IsEntry (now q)) (new_asks place boot kept q)
   new_all q = all_of_in (new_asks place boot kept q) (λ e at. (new_entry q e at).of)
     where
       all_of_in : (xs : List (AskName × Asking)) → ((e : AskName × Asking) → IsIn xs e → IsEntry (now q) e) → All (IsEntry (now q)) xs

@@ -68,7 +68,7 @@ module _ (P Q : AskName × Asking → Type 0) (name : AskName) (change : Asking 
       by_test rest false is = by_found (lookup (is_name name) es) is rest
 
 -- what holds of each entry holds of one that is found
-found_at : (P : AskName × Asking → Type 0) (name : AskName) (es : List (AskName × Asking)) (a : Asking) → asking_of es name ≡ Some a → All P es → P (name, a)
+pub found_at : (P : AskName × Asking → Type 0) (name : AskName) (es : List (AskName × Asking)) (a : Asking) → asking_of es name ≡ Some a → All P es → P (name, a)
 found_at P name [] a is all = absurd (let clash : ◌≡◌ {A = Option Asking} None (Some a) = is in cc)
 found_at P name (e ∷ es) a is all = by_test (λ found. found_at P name es a found (All-tail P e es all)) (is_name name e.0) refl is
   where
@@ -168,21 +168,21 @@ module _ (place : Place) (kept : MemberRecord) (test : AskRecord → Bool) where
 
 module _ (place : Place) (boot : List View) (kept : MemberRecord) where
   -- an open ask is one of the record, made by a step, and this was said to it
-  record IsSo (last : ℕ) (p : Past) (e : AskName × Asking) : Type 0 where
+  pub record IsSo (last : ℕ) (p : Past) (e : AskName × Asking) : Type 0 where
     pub ask : AskRecord
     pub named : ask_named kept e.0 ≡ Some ask
     pub by_then : ask.asked ≤ last
     pub kind : e.1.kind ≡ place.replies
     pub said_so : e.1.said ≡ replies_to ask.asked e.0 p
 
-  record AreSo (p : Past) : Type 0 where
+  pub record AreSo (p : Past) : Type 0 where
     pub names : AreNamed (open_asks place boot kept p)
     pub each : All (IsSo (now p) p) (open_asks place boot kept p)
 
   -- ---- asks are opened
 
   module _ (P : AskName × Asking → Type 0) (k : Knowing) where
-    opened_all : (asks new : List (AskName × Asking)) → ((e : AskName × Asking) (view : View) → P e → P (e.0, with_view view k.down e.1)) → All P asks → All P new → AreNamed asks
+    pub opened_all : (asks new : List (AskName × Asking)) → ((e : AskName × Asking) (view : View) → P e → P (e.0, with_view view k.down e.1)) → All P asks → All P new → AreNamed asks
         → All P (fold (opened_one place boot k) asks new) × AreNamed (fold (opened_one place boot k) asks new)
     opened_all asks [] keeps all fresh named = (all, named)
     opened_all asks (e ∷ new) keeps all fresh named =
@@ -197,7 +197,7 @@ module _ (place : Place) (boot : List View) (kept : MemberRecord) where
               named-opened asks e.0 a named,
             )
 
-  new_so : (q : Past) → Rises q → All (IsSo (now q) q) (new_asks place boot kept q)
+  pub new_so : (q : Past) → Rises q → All (IsSo (now q) q) (new_asks place boot kept q)
   new_so q rises =
       All-weaker (IsMade place kept (is_new q)) (IsSo (now q) q)
       (λ e m.
@@ -226,7 +226,7 @@ module _ (place : Place) (boot : List View) (kept : MemberRecord) where
 
   module _ (p : Past) (step : ℕ) (later : now p < step) where
     -- in a step behind that of the past
-    abbrev After : Occurrence → AskName × Asking → Type 0
+    abbrev pub After : Occurrence → AskName × Asking → Type 0
     After o e = IsSo step (followed p step o) e
 
     is_later : (q : Past) → ((asked : ℕ) (name : AskName) → replies_to asked name q ≡ replies_to asked name p) → (e : AskName × Asking) → IsSo (now p) p e → IsSo step q e
@@ -305,7 +305,7 @@ module _ (place : Place) (boot : List View) (kept : MemberRecord) where
         keys_seen [] = refl
         keys_seen (e ∷ es) = λ j. key (is_to view.troupe e) e j ∷ keys_seen es j
 
-    behind : (o : Occurrence) (asks : List (AskName × Asking)) → AreNamed asks → All (IsSo (now p) p) asks
+    pub behind : (o : Occurrence) (asks : List (AskName × Asking)) → AreNamed asks → All (IsSo (now p) p) asks
         → All (After o) (asks_behind place boot (followed p step o) asks) × AreNamed (asks_behind place boot (followed p step o) asks)
     behind (comes.Asked header body sender) asks named all = (all_later (followed p step (comes.Asked header body sender)) (λ asked name. refl) asks all, named)
     behind (comes.Fetched incarnation sender) asks named all = (all_later (followed p step (comes.Fetched incarnation sender)) (λ asked name. refl) asks all, named)
@@ -333,14 +333,14 @@ module _ (place : Place) (boot : List View) (kept : MemberRecord) where
 
   -- ---- over a past
 
-  keeps_opened : (q : Past) (e : AskName × Asking) (view : View) (nodes : List ℕ) → IsSo (now q) q e → IsSo (now q) q (e.0, with_view view nodes e.1)
+  pub keeps_opened : (q : Past) (e : AskName × Asking) (view : View) (nodes : List ℕ) → IsSo (now q) q e → IsSo (now q) q (e.0, with_view view nodes e.1)
   keeps_opened q e view nodes h = unsaid q q (now q) e (with_view view nodes e.1) refl refl (λ asked. refl) h
 
   none_named : AreNamed []
   unfolding IsDistinct
   none_named = tt
 
-  are_so : (p : Past) → Rises p → AreSo p
+  pub are_so : (p : Past) → Rises p → AreSo p
   are_so booted rises =
       let o = opened_all (IsSo 0 booted) (knows place boot booted) [] (new_asks place boot kept booted) (λ e view h. keeps_opened booted e view (knows place boot booted).down h) (All-nil (IsSo 0 booted)) (new_so booted rises) none_named in
       record { names = o.1; each = o.0 }

@@ -1,17 +1,20 @@
 -- What is known of what was accepted.
-use Rattle.std.specs.Prelude.{◌≡◌, ℕ, ◌≤◌, true, List}
+use Rattle.std.specs.Prelude.{◌≡◌, ℕ, ◌≤◌, true, List, length, Option, IfSome}
 use Rattle.circus_value.specs.ValueTree.{ValueTree}
 use Rattle.circus_value.specs.Fits.{all_fit}
 use Rattle.circus_value.specs.ExternalSize.{size_of_values}
 use Rattle.circus_value.specs.declared.shape.Shape.{Shape}
 use Rattle.circus_header.specs.CallFields.{IsIncarnation}
+use Rattle.circus_header.specs.declared.answer.Reply.{Reply}
 use Rattle.circus_limits.specs.Limits.{most_bytes}
-use Rattle.circus_model.specs.Lawful.{IsState, arguments_fit}
+use Rattle.circus_model.specs.Lawful.{IsState, arguments_fit, import_answers}
 use Rattle.circus_model.specs.declared.signature.Signature.{Signature}
 use Rattle.circus_member_rules.specs.Messages.{arguments_in}
 use Rattle.circus_member_rules.specs.Happening.{IsCallTo}
+use Rattle.circus_member_rules.specs.declared.occurrence.AskName.{AskName}
 use Rattle.circus_member_rules.specs.declared.occurrence.Occurrence.{Occurrence}
 use Rattle.circus_member_rules.specs.declared.occurrence.Occurrence.TheVariants as comes
+use Rattle.circus_node.specs.declared.program.Callee.{Callee}
 
 -- values of these shapes, in at most so many bytes
 pub record AreOf (shapes : List Shape) (most : ℕ) (values : List ValueTree) : Type 0 where
@@ -58,3 +61,44 @@ IsGivenRightly declared (comes.Told request table) = ⊥
 IsGivenRightly declared (comes.Restored state count) = IsState declared state
 IsGivenRightly declared (comes.Declared node) = ⊥
 IsGivenRightly declared comes.Joins = ⊥
+
+-- a reply to an ask that calls this
+pub record IsReplyOf (declared : Signature) (modules : ℕ) (callee : Option Callee) (reply : Reply) : Type 0 where
+  pub counts : length reply.clock ≡ modules
+  pub fits : IfSome callee (λ (c : Callee). import_answers declared.imports c.troupe c.procedure reply.outcome ≡ true)
+
+-- what is said to an ask of a name that calls this
+abbrev pub IsSaidRightly : Signature → ℕ → Option Callee → AskName → Occurrence → Type 0
+IsSaidRightly declared modules callee name (comes.Asked header body sender) = ⊥
+IsSaidRightly declared modules callee name (comes.Fetched incarnation sender) = ⊥
+IsSaidRightly declared modules callee name (comes.Replied other from reply) = (other ≡ name) × IsReplyOf declared modules callee reply
+IsSaidRightly declared modules callee name (comes.IsStale other server from incarnation) = Unit {0}
+IsSaidRightly declared modules callee name (comes.IsBefore other from) = Unit {0}
+IsSaidRightly declared modules callee name (comes.Told request table) = ⊥
+IsSaidRightly declared modules callee name (comes.Restored state count) = ⊥
+IsSaidRightly declared modules callee name (comes.Declared node) = ⊥
+IsSaidRightly declared modules callee name comes.Joins = ⊥
+
+-- what is returned, where asks call these
+abbrev pub IsReturnedRightly : Signature → ℕ → (AskName → Option Callee) → Occurrence → Type 0
+IsReturnedRightly declared modules called (comes.Asked header body sender) = ⊥
+IsReturnedRightly declared modules called (comes.Fetched incarnation sender) = ⊥
+IsReturnedRightly declared modules called (comes.Replied name from reply) = IsReplyOf declared modules (called name) reply
+IsReturnedRightly declared modules called (comes.IsStale name server from incarnation) = Unit {0}
+IsReturnedRightly declared modules called (comes.IsBefore name from) = Unit {0}
+IsReturnedRightly declared modules called (comes.Told request table) = IsIncarnation table.view.incarnation
+IsReturnedRightly declared modules called (comes.Restored state count) = IsState declared state
+IsReturnedRightly declared modules called (comes.Declared node) = ⊥
+IsReturnedRightly declared modules called comes.Joins = ⊥
+
+-- what happens to a member of a troupe by what is heard: a call that it may take, or what is returned
+abbrev pub IsHeardRightly : Signature → ℕ → ℕ → (AskName → Option Callee) → Occurrence → Type 0
+IsHeardRightly declared own modules called (comes.Asked header body sender) = IsCallTo declared own modules header body
+IsHeardRightly declared own modules called (comes.Fetched incarnation sender) = IsIncarnation incarnation
+IsHeardRightly declared own modules called (comes.Replied name from reply) = IsReplyOf declared modules (called name) reply
+IsHeardRightly declared own modules called (comes.IsStale name server from incarnation) = Unit {0}
+IsHeardRightly declared own modules called (comes.IsBefore name from) = Unit {0}
+IsHeardRightly declared own modules called (comes.Told request table) = IsIncarnation table.view.incarnation
+IsHeardRightly declared own modules called (comes.Restored state count) = IsState declared state
+IsHeardRightly declared own modules called (comes.Declared node) = ⊥
+IsHeardRightly declared own modules called comes.Joins = ⊥

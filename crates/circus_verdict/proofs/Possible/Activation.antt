@@ -37,7 +37,7 @@ module _ (begins : Joiner) where
   inactive_before p step (comes.IsBefore name from) is = is
   inactive_before p step (comes.Declared node) is = is
 
-  none_fetched : (p : Past) → is_active (phase begins p) ≡ false → snapshot_fetched begins p ≡ None
+  pub none_fetched : (p : Past) → is_active (phase begins p) ≡ false → snapshot_fetched begins p ≡ None
   none_fetched booted is = refl
   none_fetched (followed p step (comes.Restored state count)) is =
       by_test (is_fetching (phase begins p)) is (none_fetched p (inactive_before p step (comes.Restored state count) is))
@@ -54,7 +54,7 @@ module _ (begins : Joiner) where
   none_fetched (followed p step (comes.IsBefore name from)) is = none_fetched p is
   none_fetched (followed p step (comes.Declared node)) is = none_fetched p is
 
-  not_yet : (p : Past) → is_active (phase begins p) ≡ false → first_given (snapshot_fetched begins) p ≡ None
+  pub not_yet : (p : Past) → is_active (phase begins p) ≡ false → first_given (snapshot_fetched begins) p ≡ None
   not_yet booted is = none_yet (snapshot_fetched begins) booted refl refl
   not_yet (followed p step o) is =
       none_yet (snapshot_fetched begins) (followed p step o) (not_yet p (inactive_before p step o is)) (none_fetched (followed p step o) is)

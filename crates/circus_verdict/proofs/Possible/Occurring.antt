@@ -40,7 +40,7 @@ use Rattle.circus_member_rules.specs.declared.occurrence.Occurrence.{Occurrence}
 use Rattle.circus_member_rules.specs.declared.occurrence.Occurrence.TheVariants as comes
 use Rattle.circus_member_rules.specs.declared.occurrence.Purpose.{Purpose}
 use Rattle.circus_member_rules.specs.declared.occurrence.Purpose.TheVariants as for
-use Rattle.circus_node.specs.Accepting.{is_root, recorded_ask, imported_procedure, taken_call, accepted_call, accepted_state}
+use Rattle.circus_node.specs.Accepting.{is_root, recorded_ask, imported_procedure, taken_call, accepted_call, accepted_state, reply_by, said_by, answer_by}
 use Rattle.circus_node.specs.Bodies.{outcome_at, restored_in}
 use Rattle.circus_node.specs.Headers.{call_in, return_in}
 use Rattle.circus_member_theory.proofs.Accepting.Calls.{call_is_one}
@@ -50,7 +50,7 @@ use Rattle.circus_member_theory.proofs.Accepting.Heads.{read_back, whole_read}
 use Rattle.circus_member_theory.proofs.Accepting.Options.{before_some, seen_some}
 use Rattle.circus_member_theory.proofs.Accepting.Taken.{ask_taken, fetch_taken, table_told}
 use Rattle.circus_world_theory.proofs.Timely.Ranges.{accepted_range}
-use Rattle.circus_headline_theory.specs.NodeRun.{accepted_reply, accepted_answer, occurrence_by_record}
+use Rattle.circus_headline_theory.specs.NodeRun.{occurrence_by_record}
 use Rattle.circus_audit.specs.Possible.{AreWords, AreLongs, IsClock, IsOther}
 
 -- ---- headers
@@ -139,7 +139,7 @@ module _ (plan : Plan) (named : length plan.names ≡ length plan.deployment.tro
   -- ---- returns
 
   reply_well : (name : AskName) (from : ℕ) (clock : List ℕ) (at : ℕ) (message : List ℕ) (reply : Reply) → IsOther plan node from → AreOctets message → AreLongs clock
-      → accepted_reply d s kept name clock at message ≡ Some reply → IsWellReplied name from reply
+      → reply_by d s (recorded_ask kept name) clock at message ≡ Some reply → IsWellReplied name from reply
   reply_well name from clock at message reply other octets longs is = by_test (length clock == length d.troupes) refl is
     where
       by_test : (t : Bool) → (length clock == length d.troupes) ≡ t
@@ -162,14 +162,14 @@ module _ (plan : Plan) (named : length plan.names ≡ length plan.deployment.tro
           }
 
   well_answered : (name : AskName) (server from : ℕ) (message : List ℕ) (o : Occurrence) → IsOther plan node from → AreOctets message
-      → option_and_then (accepted_answer d s kept name server from message) (return_in message) ≡ Some o → IsWell o
+      → answer_by d s (recorded_ask kept name) name server from message ≡ Some o → IsWell o
   well_answered name server from message o other octets is =
-      let b = before_some (accepted_answer d s kept name server from message) (return_in message) o is in
+      let b = before_some (λ (read : ReturnHeader × ℕ). said_by d s (recorded_ask kept name) name server from read.0 read.1 message) (return_in message) o is in
       by_header b.value.0 b.value.1 (return_is_one message b.value b.is) b.then
     where
-      by_header : (h : ReturnHeader) (at : ℕ) → IsOne returns h → accepted_answer d s kept name server from message (h, at) ≡ Some o → IsWell o
+      by_header : (h : ReturnHeader) (at : ℕ) → IsOne returns h → said_by d s (recorded_ask kept name) name server from h at message ≡ Some o → IsWell o
       by_header (says.Reply clock) at one e =
-          let r = seen_some (λ (reply : Reply). comes.Replied name from reply) (accepted_reply d s kept name clock at message) o e in
+          let r = seen_some (λ (reply : Reply). comes.Replied name from reply) (reply_by d s (recorded_ask kept name) clock at message) o e in
           subst IsWell (sym r.seen) (reply_well name from clock at message r.value other octets (reply_longs clock one.1) r.is)
       by_header (says.Stale incarnation) at one e = (let same : comes.IsStale name server from incarnation ≡ o = cc in subst IsWell same tt)
       by_header (says.Before index) at one e = (let same : comes.IsBefore name from ≡ o = cc in subst IsWell same tt)

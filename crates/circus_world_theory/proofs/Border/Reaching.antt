@@ -124,7 +124,7 @@ All-if P false xs ys one other = other
 
 -- ---- what is known
 
-told_of : (P : ℕ → ℕ → Type 0) (k : Knowing) (view : View) → All (λ (e : Entry). P view.troupe e.node) view.entries → AreOf P k.views → AreOf P (note_view k view).views
+pub told_of : (P : ℕ → ℕ → Type 0) (k : Knowing) (view : View) → All (λ (e : Entry). P view.troupe e.node) view.entries → AreOf P k.views → AreOf P (note_view k view).views
 told_of P k view new old = by_test (is_newer k view)
   where
     by_test : (b : Bool) → let t : Knowing = if b then record k { views = set k.views view.troupe view } else k in AreOf P t.views
@@ -146,10 +146,10 @@ module _ (P : ℕ → ℕ → Type 0) (Q : ℕ → Type 0) (place : Place) (may 
 
   -- ---- the rules
 
-  answers_reach : (down message : List ℕ) (callers : List Caller) → AllReach down Q (answers message callers)
+  pub answers_reach : (down message : List ℕ) (callers : List Caller) → AllReach down Q (answers message callers)
   answers_reach down message callers = All-map (Reaches down Q) (answer message) callers (λ i d within. tt)
 
-  due_reach : (k : Knowing) (name : AskName) (a : Asking) (view : View) (asked : List Asked) → All (λ (e : Entry). Q e.node) view.entries
+  pub due_reach : (k : Knowing) (name : AskName) (a : Asking) (view : View) (asked : List Asked) → All (λ (e : Entry). Q e.node) view.entries
       → AllReach k.down Q (calls_of_ask k name a (calls_for_a_view view k.down asked))
   unfolding calls_for_a_view
   due_reach k name a view asked all =
@@ -159,10 +159,10 @@ module _ (P : ℕ → ℕ → Type 0) (Q : ℕ → Type 0) (place : Place) (may 
       (λ e due here. (not_first (is_among k.down e.node) _ due, here)) all))
 
   -- nodes of an earlier troupe
-  earlier_all : (troupe : ℕ) (es : List Entry) → troupe < place.troupe → All (λ (e : Entry). P troupe e.node) es → All (λ (e : Entry). Q e.node) es
+  pub earlier_all : (troupe : ℕ) (es : List Entry) → troupe < place.troupe → All (λ (e : Entry). P troupe e.node) es → All (λ (e : Entry). Q e.node) es
   earlier_all troupe es below all = λ i d within. may.earlier troupe _ below (all i d within)
 
-  again_reach : (k : Knowing) (name : AskName) (from incarnation : ℕ) (a : Asking) → AreOf P k.views → a.header.server < place.troupe
+  pub again_reach : (k : Knowing) (name : AskName) (from incarnation : ℕ) (a : Asking) → AreOf P k.views → a.header.server < place.troupe
       → AllReach k.down Q (call_again k name from incarnation a)
   unfolding next
   again_reach k name from incarnation a views below = by_known (slice_get k.views a.header.server) refl
@@ -180,21 +180,21 @@ module _ (P : ℕ → ℕ → Type 0) (Q : ℕ → Type 0) (place : Place) (may 
       by_known (Some view) some =
           by_test view (earlier_all a.header.server view.entries below (views a.header.server view some)) (nat_lt view.incarnation incarnation) (has_node view from) refl (is_among k.down from) refl
 
-  ring_reaches : (k : Knowing) (request : Request) → AllReach k.down Q (request_to_ring k request)
+  pub ring_reaches : (k : Knowing) (request : Request) → AllReach k.down Q (request_to_ring k request)
   ring_reaches k request = by_test (is_among k.down ringmaster) refl
     where
       by_test : (b : Bool) → is_among k.down ringmaster ≡ b → AllReach k.down Q (if b then [] else rules.request_call request ∷ [])
       by_test true is = All-nil (Reaches k.down Q)
       by_test false is = All-cons (Reaches k.down Q) (rules.request_call request) [] (is, may.ring) (All-nil (Reaches k.down Q))
 
-  lookups_reach : (k : Knowing) → AllReach k.down Q (lookups k)
+  pub lookups_reach : (k : Knowing) → AllReach k.down Q (lookups k)
   lookups_reach k = by_test (is_among k.down ringmaster) refl _
     where
       by_test : (b : Bool) → is_among k.down ringmaster ≡ b → (troupes : List ℕ) → AllReach k.down Q (map lookup_call (if b then [] else troupes))
       by_test true is troupes = All-nil (Reaches k.down Q)
       by_test false is troupes = All-map (Reaches k.down Q) lookup_call troupes (λ i d within. (is, may.ring))
 
-  new_reach : (k : Knowing) (view : View) (asks : List (AskName × Asking)) → All (λ (e : Entry). P view.troupe e.node) view.entries
+  pub new_reach : (k : Knowing) (view : View) (asks : List (AskName × Asking)) → All (λ (e : Entry). P view.troupe e.node) view.entries
       → All (λ (e : AskName × Asking). e.1.header.server < place.troupe) asks → AllReach k.down Q (calls_for_a_new_view k view asks)
   new_reach k view asks are below =
       All-flat_map (Reaches k.down Q) (calls_for_view k view) (filter (is_to view.troupe) asks)
@@ -204,7 +204,7 @@ module _ (P : ℕ → ℕ → Type 0) (Q : ℕ → Type 0) (place : Place) (may 
       same_troupe : (a b : ℕ) → nat_eq a b ≡ true → a ≡ b
       same_troupe a b is = elim (eqb_tells a b) [ inl same ↦ same.1 | inr differ ↦ cc (is, differ.0) ]
 
-  states_reach : (down : List ℕ) (view : View) → All (λ (e : Entry). P view.troupe e.node) view.entries → AllReach down Q (state_requests place down view)
+  pub states_reach : (down : List ℕ) (view : View) → All (λ (e : Entry). P view.troupe e.node) view.entries → AllReach down Q (state_requests place down view)
   states_reach down view are =
       All-map (Reaches down Q) (state_request place.troupe view.incarnation) (givers place.node down view)
       (All-map (λ (n : ℕ). Reaches down Q (state_request place.troupe view.incarnation n)) (λ (e : Entry). e.node) (filter (may_give place.node down) view.entries)
@@ -217,7 +217,7 @@ module _ (P : ℕ → ℕ → Type 0) (Q : ℕ → Type 0) (place : Place) (may 
           let tests = three performs (nat_eq e.node place.node) (is_among down e.node) gives in
           (tests.1, may.others view.troupe e.node (elim (eqb_tells e.node place.node) [ inl same ↦ cc (tests.0, same.0) | inr differ ↦ differ.1 ]) of)
 
-  gone_reaches : (k : Knowing) (node : ℕ) → AllReach k.down Q (gone_call place k node)
+  pub gone_reaches : (k : Knowing) (node : ℕ) → AllReach k.down Q (gone_call place k node)
   gone_reaches k node = by_host (slice_get place.troupes node)
     where
       by_has : (troupe : ℕ) (b : Bool) → AllReach k.down Q (if b then request_to_ring k (Gone troupe node) else [])

@@ -1,13 +1,11 @@
-use Rattle.std.proofs.Common.{◌≡◌, ◌∙◌, ◌∷◌, Err, true, false, All, sym, ap, subst}
+use Rattle.std.proofs.Common.{◌≡◌, ◌∙◌, ◌∷◌, true, false, All, sym, ap, subst}
 use Rattle.std.proofs.lemmas.List.{nil_from_length}
+use Rattle.circus_model.specs.Behaviour.{behaviours}
 use Rattle.circus_world.specs.Legal.{is_spare}
 use Rattle.circus_verdict.specs.Audited.{JoinsSo}
-use Rattle.circus_node.specs.declared.event.StepFault.{StepFault}
-use Rattle.circus_verdict.specs.declared.living.Lived.{Lived}
-use Rattle.circus_verdict.specs.Seen.Judging.{HasComeThrough, HasStopped}
-use Rattle.circus_verdict.specs.Seen.Living.{MayCome, GoesOrEnds}
+use Rattle.circus_verdict.specs.Seen.Living.{MayCome}
 use Rattle.circus_verdict.specs.Seen.Shape.{joins_so}
-use Rattle.circus_verdict.proofs.Coming.{none_audited}
+use Rattle.circus_verdict.proofs.Hosted.{no_home}
 use Rattle.circus_verdict.proofs.Shaping.{boot_is, they_come, begun_so, some_events, joins_hold, joins_only}
 use Rattle.circus_verdict.proofs.node.audit_node.Goals as goal
 
@@ -31,42 +29,57 @@ returns-then-not-joins_so g c =
     let so = joins_only (is_spare d node) c.in-Some.boot.now c.in-Some.later.now (subst (JoinsSo (is_spare d node)) events a.is.joins) in
     let clash : false ≡ true = sym c.if-not-joins_so.true ∙ c.joins_so.ensures ∙ ap (λ b. joins_so b c.in-Some.later.now) c.is_spare.ensures ∙ so in cc
 
-pub come_through-requires-clause-boot : goal.come_through-requires-clause-boot
-come_through-requires-clause-boot g c = boot_is c.in-Some.boot.now c.in-Some.later.now (sym c.is_begun.ensures ∙ c.if-not-is_begun.false)
+pub audit_member-requires-clause-boot : goal.audit_member-requires-clause-boot
+audit_member-requires-clause-boot g c = boot_is c.in-Some.boot.now c.in-Some.later.now (sym c.is_begun.ensures ∙ c.if-not-is_begun.false)
 
-pub come_through-requires-clause-come : goal.come_through-requires-clause-come
-come_through-requires-clause-come g c =
+pub audit_member-requires-clause-come : goal.audit_member-requires-clause-come
+audit_member-requires-clause-come g c =
     let d = c.args.deployment.now in
     let node = c.args.given.now.node in
     let events : c.args.given.now.events ≡ c.in-Some.boot.now ∷ c.in-Some.later.now = sym c.as_slice.ensures ∙ c.in-Some.ensures.cases.0 in
     they_come d node c.in-Some.boot.now c.in-Some.later.now (sym c.is_begun.ensures ∙ c.if-not-is_begun.false) (subst (All (MayCome d node)) events c.requires.come)
 
-pub judge-requires-clause-through : goal.judge-requires-clause-through
-judge-requires-clause-through g c =
+pub audit_member-requires-clause-joins : goal.audit_member-requires-clause-joins
+audit_member-requires-clause-joins g c =
     let d = c.args.deployment.now in
     let node = c.args.given.now.node in
     let events : c.args.given.now.events ≡ c.in-Some.boot.now ∷ c.in-Some.later.now = sym c.as_slice.ensures ∙ c.in-Some.ensures.cases.0 in
     let begun = boot_is c.in-Some.boot.now c.in-Some.later.now (sym c.is_begun.ensures ∙ c.if-not-is_begun.false) in
-    record {
-      boot = c.in-Some.boot.now;
-      later = c.in-Some.later.now;
-      events = events;
-      begun = begun;
-      joins = subst (JoinsSo (is_spare d node)) (sym events)
-          (joins_hold (is_spare d node) c.in-Some.boot.now c.in-Some.later.now begun
-          (sym (ap (λ b. joins_so b c.in-Some.later.now) c.is_spare.ensures) ∙ sym c.joins_so.ensures ∙ c.if-not-joins_so.false));
-      through = c.in-Ok.ensures.lived;
-    }
+    subst (JoinsSo (is_spare d node)) (sym events)
+    (joins_hold (is_spare d node) c.in-Some.boot.now c.in-Some.later.now begun
+    (sym (ap (λ b. joins_so b c.in-Some.later.now) c.is_spare.ensures) ∙ sym c.joins_so.ensures ∙ c.if-not-joins_so.false))
 
-pub returns-in-Err-Spent : goal.returns-in-Err-Spent
-returns-in-Err-Spent g c =
-    let M = g.M.Module in
+pub audit_member-requires-clause-events : goal.audit_member-requires-clause-events
+audit_member-requires-clause-events g c = sym c.as_slice.ensures ∙ c.in-Some.ensures.cases.0
+
+pub audit_ring-requires-clause-boot : goal.audit_ring-requires-clause-boot
+audit_ring-requires-clause-boot g c = boot_is c.in-Some.boot.now c.in-Some.later.now (sym c.is_begun.ensures ∙ c.if-not-is_begun.false)
+
+pub audit_ring-requires-clause-come : goal.audit_ring-requires-clause-come
+audit_ring-requires-clause-come g c =
+    let d = c.args.deployment.now in
+    let node = c.args.given.now.node in
+    let events : c.args.given.now.events ≡ c.in-Some.boot.now ∷ c.in-Some.later.now = sym c.as_slice.ensures ∙ c.in-Some.ensures.cases.0 in
+    they_come d node c.in-Some.boot.now c.in-Some.later.now (sym c.is_begun.ensures ∙ c.if-not-is_begun.false) (subst (All (MayCome d node)) events c.requires.come)
+
+pub audit_ring-requires-clause-joins : goal.audit_ring-requires-clause-joins
+audit_ring-requires-clause-joins g c =
+    let d = c.args.deployment.now in
+    let node = c.args.given.now.node in
     let events : c.args.given.now.events ≡ c.in-Some.boot.now ∷ c.in-Some.later.now = sym c.as_slice.ensures ∙ c.in-Some.ensures.cases.0 in
     let begun = boot_is c.in-Some.boot.now c.in-Some.later.now (sym c.is_begun.ensures ∙ c.if-not-is_begun.false) in
-    none_audited M.declared M.turn M.first (λ m. record { first_is_state = g.met.M.Module.first_is_state m; turns_are_lawful = g.met.M.Module.turns_are_lawful m })
-    c.args.deployment.now c.args.modules.now c.args.given.now c.in-Some.boot.now c.in-Some.later.now c.in-Err-Spent.field-0-0 events begun c.requires.deployment c.requires.modules c.requires.within
-    (subst
-    (λ (f : StepFault). GoesOrEnds {A = Lived g.row.M.Denot g.row.M-Paused.Denot}
-    (λ lived. HasComeThrough M.declared M.turn M.first c.args.deployment.now c.args.modules.now c.args.given.now.node c.in-Some.boot.now c.in-Some.later.now lived.core lived.is_told lived.awaited)
-    (HasStopped M.declared M.turn M.first c.args.deployment.now c.args.modules.now c.args.given.now.node c.in-Some.boot.now c.in-Some.later.now) (Err f))
-    c.in-Err-Spent.field-0-is c.in-Err-Spent.ensures.lived)
+    subst (JoinsSo (is_spare d node)) (sym events)
+    (joins_hold (is_spare d node) c.in-Some.boot.now c.in-Some.later.now begun
+    (sym (ap (λ b. joins_so b c.in-Some.later.now) c.is_spare.ensures) ∙ sym c.joins_so.ensures ∙ c.if-not-joins_so.false))
+
+pub audit_ring-requires-clause-events : goal.audit_ring-requires-clause-events
+audit_ring-requires-clause-events g c = sym c.as_slice.ensures ∙ c.in-Some.ensures.cases.0
+
+pub audit_member-requires-clause-home : goal.audit_member-requires-clause-home
+audit_member-requires-clause-home g c = sym c.in_ok-home.ensures ∙ c.in-Some-2.is
+
+pub audit_ring-requires-clause-none : goal.audit_ring-requires-clause-none
+audit_ring-requires-clause-none g c = no_home c.args.deployment.now c.args.given.now.node c.requires.deployment (sym c.in_ok-home.ensures ∙ c.in-None.is)
+
+pub returns-in-None : goal.returns-in-None
+returns-in-None g c = (let M = g.M.Module in c.audit_ring.ensures (behaviours M.declared M.turn M.first c.args.modules.now))

@@ -1,6 +1,7 @@
 use Rattle.std.proofs.Common.{◌<◌, ◌∙◌, List, All, IfOk, length, map, ap, sym, subst}
 use Rattle.circus_collate.specs.Deployment.{IsDeployment}
 use Rattle.circus_collate.specs.declared.deployment.Deployment.{Deployment}
+use Rattle.circus_plan_modules.specs.Loaded.{behaviours_in}
 use Rattle.circus_plan_modules.specs.Seen.Behaving.{declared_signature, turn, first}
 use Rattle.circus_machine.specs.declared.text.TextModule.{TextModule}
 use Rattle.circus_model.specs.Agree.{Agree}
@@ -8,7 +9,8 @@ use Rattle.circus_model.specs.Behaviour.{Behaviour, behaviours}
 use Rattle.circus_node.specs.Booting.{AreOfTroupes}
 use Rattle.circus_verdict.specs.Verdict.{IsVerdict}
 use Rattle.circus_verdict.specs.Seen.Living.{MayCome}
-use Rattle.circus_verdict.proofs.Planned.{they_may, few_runs}
+use Rattle.circus_verdict.specs.Seen.Judging.{MaySay}
+use Rattle.circus_verdict.proofs.Planned.{they_may, few_runs, may_say}
 use Rattle.circus_verdict.proofs.verdict.audit.Goals as goal
 
 pub load-requires : goal.load-requires
@@ -34,6 +36,13 @@ audit_node-requires-clause-come c =
 
 pub audit_node-requires-clause-few : goal.audit_node-requires-clause-few
 audit_node-requires-clause-few c = few_runs c.args.plan c.args.given.now c.requires.possible
+
+pub audit_node-requires-clause-says : goal.audit_node-requires-clause-says
+audit_node-requires-clause-says c =
+    let loaded = c.in_ok-deployment.ensures in
+    let behave = ap (behaviours declared_signature turn first) c.as_slice.ensures.value ∙ loaded.behave in
+    subst (λ (p : List Behaviour). MaySay c.in_ok-deployment.field-0.deployment p c.args.given.now) (sym behave)
+    (subst (λ (d : Deployment). MaySay d (behaviours_in c.args.plan) c.args.given.now) (sym loaded.deployment) (may_say c.args.plan c.args.given.now c.requires.possible))
 
 pub returns : goal.returns
 returns c =
