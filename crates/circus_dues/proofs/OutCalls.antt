@@ -1,23 +1,19 @@
 -- What becomes of open asks along a trace, and the calls that are made of them, read of what is
 -- known the views and the nodes that are down alone.
-use Rattle.std.proofs.Common.{◌≡◌, ℕ, Bool, if◌then◌else◌, List, [], filter, None, Some, refl, sym, ap, ◌∙◌}
-use Rattle.std.specs.Prelude.{fold, slice_get}
-use Rattle.std.specs.List.{flat_map}
+use Rattle.std.proofs.Common.{◌≡◌, ℕ, Bool, if◌then◌else◌, List, [], filter, refl, sym}
+use Rattle.std.specs.Prelude.{fold}
 use Rattle.std.specs.Option.{option_map_or}
 use Rattle.circus_header.specs.declared.call.CallHeader.{CallHeader}
-use Rattle.circus_header.specs.declared.call.Request.{Request}
 use Rattle.circus_collate.specs.declared.view.View.{View}
 use Rattle.circus_collate.specs.declared.kind.Kind.{Kind}
 use Rattle.circus_fanout.specs.Knowing.{Knowing}
-use Rattle.circus_fanout.specs.Asking.{Asking, begin_asking, with_view, calls_for_a_view}
+use Rattle.circus_fanout.specs.Asking.{Asking, begin_asking}
 use Rattle.circus_member_rules.specs.declared.place.Place.{Place}
 use Rattle.circus_member_rules.specs.declared.occurrence.AskName.{AskName}
 use Rattle.circus_member_rules.specs.declared.occurrence.Occurrence.{Occurrence}
 use Rattle.circus_member_rules.specs.declared.occurrence.Occurrence.TheVariants as comes
-use Rattle.circus_member_rules.specs.OpenAsks.{asking_of, with_ask, with_asking}
-use Rattle.circus_member_rules.specs.Rules.{calls_of_ask, after_stale, call_again, calls_for_a_new_view, with_new_view, stays_open, close_asks}
-use Rattle.circus_member_rules.specs.Step.{answered_by_ring}
-use Rattle.circus_member_rules.proofs.Homes.{ring_down, ring_views}
+use Rattle.circus_member_rules.specs.OpenAsks.{asking_of, with_asking}
+use Rattle.circus_member_rules.specs.Rules.{after_stale, call_again, calls_for_a_new_view, with_new_view, stays_open, close_asks}
 use Rattle.circus_member_theory.specs.Past as past
 use Rattle.circus_member_theory.specs.Past.{Past, followed}
 use Rattle.circus_member_theory.specs.Asks.{knows, opened_one, first_calls, asks_behind, calls_behind}

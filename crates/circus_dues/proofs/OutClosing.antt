@@ -2,7 +2,7 @@
 use Rattle.std.proofs.Common.{◌≡◌, ℕ, Bool, true, false, ◌||◌, not, true≢false, List, [], ◌∷◌, All, Option, None, Some, refl, sym, ap, subst, ◌∙◌}
 use Rattle.std.specs.Prelude.{fold, slice_get}
 use Rattle.std.specs.Option.{option_map_or}
-use Rattle.std.proofs.lemmas.List.Elements.{All-nil, All-cons, All-head, All-tail, All-weaker, filter_agree, filter_passes}
+use Rattle.std.proofs.lemmas.List.Elements.{All-head, All-tail, All-weaker, filter_agree}
 use Rattle.circus_collate.specs.declared.view.View.{View}
 use Rattle.circus_record.specs.declared.record.MemberRecord.{MemberRecord}
 use Rattle.circus_fanout.specs.Knowing.{Knowing}
@@ -14,9 +14,9 @@ use Rattle.circus_member_rules.specs.declared.occurrence.Occurrence.TheVariants 
 use Rattle.circus_member_rules.specs.OpenAsks.{is_name, is_waiting, with_ask, with_asking}
 use Rattle.circus_member_rules.specs.Rules.{after_stale, is_settled, stays_open, close_asks}
 use Rattle.circus_member_rules.specs.Seen.Closing.{concern_of, close_by}
-use Rattle.circus_member_rules.proofs.Named.{names_decide, names_are, All-opened_at, All-changed_at}
+use Rattle.circus_member_rules.proofs.Named.{names_decide, All-opened_at, All-changed_at}
 use Rattle.circus_member_rules.proofs.Concerned.{all_of, is_concerned, close_by_same}
-use Rattle.circus_member_theory.specs.Past.{Past, booted, followed}
+use Rattle.circus_member_theory.specs.Past.{Past, followed}
 use Rattle.circus_member_theory.specs.Asks.{knows, opened_one, asks_behind, new_asks, waits_then, open_asks}
 use Rattle.circus_dues.specs.Out.{KnowsViews}
 use Rattle.circus_dues.proofs.OutCalls.{closed_are, all_opened}

@@ -3,7 +3,6 @@ use Rattle.std.proofs.Common.{◌≡◌, ℕ, Bool, true, false, if◌then◌els
 use Rattle.std.specs.Prelude.{fold, slice_get}
 use Rattle.std.specs.Option.{option_map_or}
 use Rattle.std.proofs.lemmas.List.Elements.{All-nil, All-head, All-tail, All-filter, All-map, All-weaker}
-use Rattle.circus_header.specs.CallFields.{IsIncarnation}
 use Rattle.circus_header.specs.declared.call.CallHeader.{CallHeader}
 use Rattle.circus_collate.specs.declared.view.View.{View}
 use Rattle.circus_record.specs.declared.record.MemberRecord.{MemberRecord}
@@ -13,9 +12,9 @@ use Rattle.circus_member_rules.specs.declared.place.Place.{Place}
 use Rattle.circus_member_rules.specs.declared.occurrence.AskName.{AskName}
 use Rattle.circus_member_rules.specs.declared.occurrence.Occurrence.{Occurrence}
 use Rattle.circus_member_rules.specs.declared.occurrence.Occurrence.TheVariants as comes
-use Rattle.circus_member_rules.specs.Callable.{IsAsked, MayCall, AllMayCall}
+use Rattle.circus_member_rules.specs.Callable.{IsAsked}
 use Rattle.circus_member_rules.specs.OpenAsks.{with_ask, with_asking}
-use Rattle.circus_member_rules.specs.Rules.{incarnation_of, after_stale, is_to, seen_by_ask, with_new_view, stays_open}
+use Rattle.circus_member_rules.specs.Rules.{after_stale, is_to, seen_by_ask, with_new_view, stays_open}
 use Rattle.circus_member_rules.proofs.Named.{All-changed, All-opened}
 use Rattle.circus_member_theory.specs.Past.{Past, booted, followed, is_newer, views_known}
 use Rattle.circus_member_theory.specs.Asks.{knows, opened_one, asks_behind, new_asks, waits_then, open_asks}

@@ -1,19 +1,15 @@
 -- The asks of a record that are new in a step, run by run and ask by ask.
 use Rattle.std.proofs.Common.{◌≡◌, ℕ, ◌+◌, Bool, true, false, ◌&&◌, not, if◌then◌else◌, List, [], ◌∷◌, ◌++◌, length, All, sym, ap, ◌∙◌, arith, append_assoc, append-nil}
-use Rattle.std.specs.Prelude.{fold, unwrap_or}
+use Rattle.std.specs.Prelude.{unwrap_or}
 use Rattle.std.proofs.lemmas.Bool.{ne_eqb}
-use Rattle.std.proofs.lemmas.List.Sums.{fold-append}
 use Rattle.circus_collate.specs.declared.view.View.{View}
 use Rattle.circus_model.specs.Execution.{is_spent}
 use Rattle.circus_record.specs.declared.record.AskRecord.{AskRecord}
 use Rattle.circus_record.specs.declared.record.MemberRecord.{MemberRecord}
 use Rattle.circus_record.specs.declared.record.RunRecord.{RunRecord}
-use Rattle.circus_fanout.specs.Knowing.{Knowing}
-use Rattle.circus_fanout.specs.Asking.{Asking}
 use Rattle.circus_member_rules.specs.declared.place.Place.{Place}
-use Rattle.circus_member_rules.specs.declared.occurrence.AskName.{AskName}
 use Rattle.circus_member_theory.specs.Past.{Past, now}
-use Rattle.circus_member_theory.specs.Asks.{is_new, as_made, asks_from, asks_of, opened_one, new_asks}
+use Rattle.circus_member_theory.specs.Asks.{is_new, as_made, asks_from, asks_of, new_asks}
 use Rattle.circus_headline_theory.proofs.Owed.Entries.{none_of}
 
 -- an ask that was made in another step isn't new

@@ -1,24 +1,17 @@
 -- A step, by what is kept: which calls what comes makes, and which asks are open then.
-use Rattle.std.proofs.Common.{◌≡◌, ℕ, List, ◌++◌, All, true, Option, ap, ◌∙◌}
-use Rattle.std.specs.Prelude.{fold}
+use Rattle.std.proofs.Common.{◌≡◌, ℕ, List, ◌++◌}
 use Rattle.circus_collate.specs.declared.view.View.{View}
 use Rattle.circus_transfer.specs.declared.joiner.Joiner.{Joiner}
 use Rattle.circus_record.specs.declared.record.MemberRecord.{MemberRecord}
 use Rattle.circus_fanout.specs.Knowing.{Knowing}
-use Rattle.circus_fanout.specs.Asking.{Asking}
 use Rattle.circus_value.specs.ValueTree.{ValueTree}
 use Rattle.circus_member_rules.specs.declared.place.Place.{Place}
-use Rattle.circus_member_rules.specs.declared.occurrence.AskName.{AskName}
 use Rattle.circus_member_rules.specs.declared.occurrence.Occurrence.{Occurrence}
-use Rattle.circus_member_rules.specs.OpenAsks.{is_waiting}
-use Rattle.circus_member_rules.specs.Rules.{close_asks}
-use Rattle.circus_member_rules.specs.Seen.Closing.{concern_of, close_by}
 use Rattle.circus_member_theory.specs.Past.{Past, followed, phase}
-use Rattle.circus_member_theory.specs.Asks.{knows, opened_one, new_asks, waits_then, open_asks}
+use Rattle.circus_member_theory.specs.Asks.{open_asks}
 use Rattle.circus_member_theory.specs.Order.{calls_of_what_came}
-use Rattle.circus_dues.specs.Out.{requests_of, open_behind, calls_of_open, KnowsViews}
-use Rattle.circus_dues.proofs.OutCalls.{asks_behind_are, calls_behind_are}
-use Rattle.circus_dues.proofs.OutClosing.{IsUnsettled, all_closed, concerned_closed}
+use Rattle.circus_dues.specs.Out.{requests_of, calls_of_open, KnowsViews}
+use Rattle.circus_dues.proofs.OutCalls.{calls_behind_are}
 use Rattle.circus_dues.proofs.OutPhase.{requests_are}
 
 module _ (place : Place) (boot : List View) (begins : Joiner) (first : List ValueTree) (kept : MemberRecord) (p : Past) (step : ℕ) (o : Occurrence) (before k : Knowing)

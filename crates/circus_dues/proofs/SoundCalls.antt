@@ -13,19 +13,18 @@ use Rattle.circus_value.specs.declared.caller.Caller.{Caller}
 use Rattle.circus_collate.specs.declared.kind.Kind.{Kind}
 use Rattle.circus_collate.specs.declared.view.View.{View}
 use Rattle.circus_model.specs.declared.signature.Signature.{Signature}
-use Rattle.circus_record.specs.declared.record.RunRecord.{RunRecord}
 use Rattle.circus_record.specs.declared.record.MemberRecord.{MemberRecord}
 use Rattle.circus_gather.specs.Gathering.{Gathered, index_of, is_of_index, is_counted, reply_of, before_any, with_call, with_required, with_first, with_start, with_end, call_to_start}
 use Rattle.circus_gather.specs.declared.held.HeldCall.{HeldCall}
 use Rattle.circus_gather.specs.declared.added.Added.{Added}
 use Rattle.circus_fanout.specs.Knowing.{Knowing, at_boot}
 use Rattle.circus_fanout.specs.Asking.{Asking, with_view}
-use Rattle.circus_performing.specs.Record.{start_of, count_after}
+use Rattle.circus_performing.specs.Record.{count_after}
 use Rattle.circus_member_rules.specs.declared.place.Place.{Place}
 use Rattle.circus_member_rules.specs.declared.occurrence.AskName.{AskName}
 use Rattle.circus_member_rules.specs.OpenAsks.{with_ask}
 use Rattle.circus_member_rules.specs.Rules.{wanted_by_call}
-use Rattle.circus_member_rules.specs.Step.{start_by_call, main_start, answered_by_ring}
+use Rattle.circus_member_rules.specs.Step.{answered_by_ring}
 use Rattle.circus_member_rules.specs.Callable.{IsReply, AreReplies}
 use Rattle.circus_member_rules.specs.Happening.{IsHome, IsCallTo}
 use Rattle.circus_member_rules.specs.Seen.Sound.{IsHeld, AreHeld}
@@ -34,7 +33,6 @@ use Rattle.circus_member_rules.proofs.Homes.{told_as_many, ring_views, called_vi
 use Rattle.circus_member_rules.proofs.Starting.{given_is_chosen}
 use Rattle.circus_dues.specs.Seen.Parts.{CallsIn, CallsOut, MayCallFor, with_table, with_opened}
 use Rattle.circus_dues.specs.Seen.Sound.{MayGoOn, IsPassed}
-use Rattle.circus_dues.proofs.SoundHeaders.{called_thread, main_thread, entered_thread}
 
 -- a call that counts for the run of an index is of that index
 counted_index : (own required : ℕ) (views : List View) (index : ℕ) (call : HeldCall) → is_counted own required views index call ≡ true → index_of own call.header ≡ index

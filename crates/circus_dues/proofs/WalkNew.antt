@@ -1,7 +1,7 @@
 -- The asks of a run that are made in a step stand one behind the other, behind those made before.
-use Rattle.std.proofs.Common.{◌≡◌, ℕ, ◌+◌, ◌<◌, ◌≤◌, ◌⊎◌, inl, inr, Bool, false, ◌&&◌, not, if◌then◌else◌, List, [], ◌∷◌, ◌++◌, length, All, refl, sym, ap, ◌∙◌, arith, append_assoc, append-nil}
+use Rattle.std.proofs.Common.{◌≡◌, ℕ, ◌+◌, ◌<◌, ◌≤◌, ◌⊎◌, inl, inr, Bool, ◌&&◌, not, if◌then◌else◌, List, [], ◌∷◌, ◌++◌, length, All, refl, sym, ap, ◌∙◌, arith, append_assoc}
 use Rattle.std.specs.Prelude.{unwrap_or}
-use Rattle.std.proofs.lemmas.Bool.{cases_lt, eq-eqb, ne_eqb}
+use Rattle.std.proofs.lemmas.Bool.{cases_lt, eq-eqb}
 use Rattle.std.proofs.lemmas.List.Elements.{All-nil, All-cons, All-head, All-tail, All-weaker}
 use Rattle.circus_model.specs.Execution.{is_spent}
 use Rattle.circus_record.specs.declared.record.AskRecord.{AskRecord}
@@ -12,7 +12,6 @@ use Rattle.circus_member_rules.specs.declared.occurrence.AskName.{AskName}
 use Rattle.circus_member_theory.specs.Past.{Past, now}
 use Rattle.circus_member_theory.specs.Asks.{as_made, asks_from, is_new}
 use Rattle.circus_dues.specs.Walk.{AskOneByOne, AreAskedBy, made_from}
-use Rattle.circus_headline_theory.proofs.Owed.Entries.{none_from}
 use Rattle.circus_dues.proofs.WalkAnswers.{IsLateAsk, late_asks}
 
 abbrev AskedBefore : ℕ → AskRecord → Type 0

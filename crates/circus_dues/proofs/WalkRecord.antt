@@ -14,7 +14,7 @@ use Rattle.circus_performing.proofs.Ends.{latest_more, replies_more}
 use Rattle.circus_performing.proofs.Records.{ended_more}
 use Rattle.circus_performing.proofs.Turns.{made_more}
 use Rattle.circus_dues.specs.WalkRecord.{IsTurnOf, HasReply, StillWaits, GoesToEnd, GoesToWait, GoesOn, RunsToEnd, RunsToWait, state_asked, GoOn}
-use Rattle.circus_headline_theory.proofs.One.{at_front, take_front, none_is_some}
+use Rattle.circus_headline_theory.proofs.One.{at_front, take_front}
 
 -- ---- a run
 

@@ -1,5 +1,5 @@
 -- A step is timely where the walk along the runs that stand in it finds it so.
-use Rattle.std.proofs.Common.{◌≡◌, ℕ, zero, suc, ◌+◌, ◌<◌, ◌≤◌, ◌⊎◌, inl, inr, false, true≢false, List, [], ◌∷◌, ◌++◌, length, All, Option, None, Some, refl, sym, ap, subst, ◌∙◌, arith, append_assoc, length-append}
+use Rattle.std.proofs.Common.{◌≡◌, ℕ, zero, suc, ◌+◌, ◌<◌, ◌≤◌, ◌⊎◌, inl, inr, false, true≢false, List, [], ◌∷◌, ◌++◌, length, All, Option, None, Some, refl, sym, ap, subst, ◌∙◌, arith, append_assoc}
 use Rattle.std.specs.Prelude.{slice_get, is_none, unwrap_or}
 use Rattle.std.proofs.lemmas.List.Elements.{All-nil, All-cons, All-head, All-tail}
 use Rattle.std.proofs.lemmas.Option.{same_Some}
@@ -16,7 +16,7 @@ use Rattle.circus_member_theory.specs.Timely.{may_start}
 use Rattle.circus_dues.specs.Walk.{IsBefore, AskOneByOne, IsRunInOrder, RunOneByOne, AreStanding, StartsInStep, IsTimelyStep, StartOnward, AreAnsweredOnward, AreAnsweredInEach}
 use Rattle.circus_dues.proofs.WalkRuns.{asks_rise, IsGoing, StartsLater, EndedBefore}
 use Rattle.circus_dues.proofs.WalkMade.{AreInOrder, each_in_order, all_front, all_back}
-use Rattle.circus_dues.proofs.WalkStarts.{get_behind, all_at, one_by_one_behind, walk_starts, starts_walked}
+use Rattle.circus_dues.proofs.WalkStarts.{all_at, one_by_one_behind, starts_walked}
 use Rattle.circus_dues.proofs.WalkAnswers.{IsLateAsk, late_asks, AnsweredBefore, late_is_so, early_is_so, AnsweredInRun, run_of_walk, walk_of_run}
 
 -- ---- asks of runs that ended before a step

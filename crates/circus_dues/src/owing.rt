@@ -15,7 +15,7 @@ ghost use Rattle.circus_dues.specs.Seen.Parts.{with_table};
 ghost use Rattle.circus_performing.specs.Performing as performing;
 ghost use Rattle.circus_performing.specs.Record.{count_after};
 ghost use Rattle.circus_dues.specs.Seen.Owing as owing;
-ghost use Rattle.circus_dues.specs.Seen.Owing.{MayOwe, MayPerform, MayBeSent, HasFewAsked};
+ghost use Rattle.circus_dues.specs.Seen.Owing.{MayOwe, MayPerform, MayBeSent, HasFewAsked, asked_at};
 ghost use Rattle.circus_dues.specs.Seen.Sound.{IsSoundOwing};
 ghost use Rattle.circus_dues.specs.Seen.Steps as steps;
 
@@ -397,7 +397,7 @@ impl Owing {
         requires ask { IfSome (slice_get run.now.asks number)
             (MayBeSent of.now.place.now.troupe run.now number) }
         ensures kept { OnOk result
-            (self.new ≡ owing.asked_at of.now.place.now of.now.kept.now at self.old run.now number) }
+            (self.new ≡ asked_at of.now.place.now of.now.kept.now at self.old run.now number) }
         ensures made { OnOk result
             (effects.new ≡ effects.old
             ++ owing.calls_at of.now.place.now of.now.kept.now self.old run.now number) }

@@ -13,8 +13,7 @@ ghost use Rattle.circus_audit.specs.declared.given.GivenEvent.{GivenEvent as Tol
 ghost use Rattle.circus_verdict.specs.Audited.{JoinsSo};
 ghost use Rattle.circus_verdict.specs.Verdict.{IsVerdict};
 ghost use Rattle.circus_verdict.specs.Seen.Living.{HasCome};
-ghost use Rattle.circus_verdict.specs.Seen.Ringing as ringing;
-ghost use Rattle.circus_verdict.specs.Seen.Ringing.{IsReady, LivesThrough};
+ghost use Rattle.circus_verdict.specs.Seen.Ringing.{IsReady, LivesThrough, kept_then};
 
 use crate::Verdict;
 use crate::same::Same;
@@ -176,7 +175,7 @@ fn answer(
 ) -> Result<Effects, NoMemory>
     requires { IsRingOf deployment.now ring.old }
     ensures kept { OnOk result (IsRingOf deployment.now ring.new) }
-    ensures ring { OnOk result (ring.new ≡ ringing.kept_then ring.old (request_heard ring.old heard)) }
+    ensures ring { OnOk result (ring.new ≡ kept_then ring.old (request_heard ring.old heard)) }
     ensures made { IfOk result (λ made.
         made ≡ flat_map (answer_to ring.old) (request_heard ring.old heard)) }
 {
@@ -198,7 +197,7 @@ fn answer_call(
     requires { IsRingOf deployment.now ring.old }
     ensures kept { OnOk result (IsRingOf deployment.now ring.new) }
     ensures ring { OnOk result
-        (ring.new ≡ ringing.kept_then ring.old (request_heard ring.old (Called sender message.now))) }
+        (ring.new ≡ kept_then ring.old (request_heard ring.old (Called sender message.now))) }
     ensures made { IfOk result (λ made.
         made ≡ flat_map (answer_to ring.old) (request_heard ring.old (Called sender message.now))) }
 {

@@ -1,5 +1,5 @@
 -- What a member owes at boot, as its record is begun.
-use Rattle.std.specs.Prelude.{ℕ, Bool, not, ◌&&◌, ◌||◌, nat_eq, is_none, if◌then◌else◌, List, [], None}
+use Rattle.std.specs.Prelude.{Bool, not, ◌&&◌, ◌||◌, nat_eq, is_none, if◌then◌else◌, List, [], None}
 use Rattle.circus_value.specs.ValueTree.{ValueTree}
 use Rattle.circus_collate.specs.declared.view.View.{View}
 use Rattle.circus_transfer.specs.declared.joiner.Joiner.{Joiner}
