@@ -4,7 +4,7 @@ ghost use Rattle.std.specs.Prelude.{◌≡◌, ◌<◌, length, IfOk};
 ghost use Rattle.circus_benchmark.specs.Up.{IsUp};
 
 use circus_pair::{Datagrams, Pair, PairFault, read_segment};
-use circus_value::{Duplicate, Message, NoMemory};
+use circus_value::{Message, NoMemory};
 use std::alloc::Global;
 use std::io;
 use std::time::Instant;
@@ -127,9 +127,8 @@ fn arrive(datagrams: &Datagrams, at: &mut Pair) -> Result<Option<Datagrams>, NoM
     let Some(datagram) = datagrams.get(0) else {
         return Ok(None);
     };
-    let datagram = datagram.copy()?.share()?;
     match read_segment(datagram.as_slice()) {
-        Ok(segment) => Ok(Some(at.take(&segment, &datagram)?.datagrams)),
+        Ok(segment) => Ok(Some(at.take(&segment)?.datagrams)),
         Err(_) => Ok(None),
     }
 }

@@ -3,7 +3,7 @@ ghost use Rattle.std.specs.Prelude.{◌≡◌, List, [], ◌∷◌, ◌++◌, le
 ghost use Rattle.circus_checked.specs.ExpressionOf.{tree_of, suffix_of};
 
 use crate::{Calculation, Form, NumberKind, Order};
-use circus_value::{Duplicate, NoMemory, Octets};
+use circus_value::{Duplicate, NoMemory, Text};
 use std::alloc::Global;
 use std::marker::Model;
 
@@ -25,7 +25,7 @@ pub enum CheckedExpression {
     /// Whether a choice stands at the arm with this number.
     Is(u16, CheckedOperand),
     Number(u64),
-    Text(Octets),
+    Text(Text),
     Truth(bool),
     /// How many bytes a text or how many items a sequence has.
     Length(CheckedOperand),

@@ -178,7 +178,7 @@ impl CallsIn {
         let reply = reply_of_run(self.alloc, run)?;
         let message = reply_message(self.alloc, &reply)?;
         let callers = self.gather.finish(index, reply)?;
-        answer_all(&callers, &message, effects)
+        answer_all(self.alloc, &callers, message, effects)
     }
 
     /// The state is given to those that asked for it.
@@ -199,7 +199,7 @@ impl CallsIn {
             return Ok(());
         }
         let message = snapshot(self.alloc, state, variables, count)?;
-        answer_all(&self.requests, &message, effects)?;
+        answer_all(self.alloc, &self.requests, message, effects)?;
         self.requests = ListOf::new(self.alloc);
         Ok(())
     }

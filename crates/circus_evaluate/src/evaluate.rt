@@ -19,7 +19,7 @@ use circus_checked::{
     CheckedSuffix, CheckedSuffixes, Form, NumberKind, Order,
 };
 use circus_model::LanguageError;
-use circus_value::{Chosen, Duplicate, ListOf, Octets, Value, Values};
+use circus_value::{Chosen, Duplicate, ListOf, Octets, Text, Value, Values, ValuesBuilder};
 use std::alloc::Global;
 
 /// What an expression gives in these variables, where a value has at most so many bytes. It goes no deeper than the
@@ -259,7 +259,7 @@ fn join_lists(
     let mut bytes = ListOf::new(alloc);
     append_text(alloc, limit, variables, &mut bytes, left.expression())?;
     append_text(alloc, limit, variables, &mut bytes, right.expression())?;
-    made_text(bytes, limit)
+    made_text(Text::of(alloc, bytes)?, limit)
 }
 
 // Whether a choice stands at this arm.
@@ -337,11 +337,11 @@ pub fn evaluate_all(
         values) result (evaluating.evaluate_all limit variables.now
         (expression_trees expressions.now)) }
 {
-    let mut values = Values::new(alloc);
+    let mut values = ValuesBuilder::with_capacity(alloc, expressions.len())?;
     for expression in expressions.as_slice() {
         values.push(value_in(alloc, limit, variables, expression)?)?;
     }
-    Ok(values)
+    Ok(values.finish()?)
 }
 
 // What stands at a place. Each subscript is tested before the next one is evaluated.

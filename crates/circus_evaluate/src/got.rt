@@ -8,7 +8,7 @@ ghost use Rattle.circus_evaluate.specs.Seen.Values.{value_as, bytes_as};
 
 use crate::number::literal;
 use circus_model::LanguageError;
-use circus_value::{Duplicate, NoMemory, Octets, Value, external_size};
+use circus_value::{Duplicate, NoMemory, Text, Value, external_size};
 
 /// What an expression gives (docs/LANGUAGE.md, "Expressions").
 #[derive(Debug, Drop)]
@@ -175,11 +175,11 @@ pub(crate) fn unless_large(value: Value, limit: u32) -> Result<Got<'static>, NoV
 }
 
 /// A text that is made, unless it is too long.
-pub(crate) fn made_text(bytes: Octets, limit: u32) -> Result<Got<'static>, NoValue>
-    ensures { Gives got_as result (got.made_text limit bytes) }
+pub(crate) fn made_text(text: Text, limit: u32) -> Result<Got<'static>, NoValue>
+    ensures { Gives got_as result (got.made_text limit text) }
 {
-    if bytes.len() <= MOST_TEXT {
-        unless_large(Value::Text(bytes), limit)
+    if text.len() <= MOST_TEXT {
+        unless_large(Value::Text(text), limit)
     } else {
         Err(NoValue::Raises(LanguageError::TooLong))
     }

@@ -1,7 +1,7 @@
 // One end of an exchange of calls and returns with another node.
 ghost use Rattle.std.specs.Prelude.{◌≡◌, ◌≢◌, ◌+◌, ◌≤◌, ◌<◌, ◌++◌, length, not, true, false, if◌then◌else◌, IfOk, OnOk, OnErr};
 ghost use Rattle.std.specs.FinMap as map;
-ghost use Rattle.circus_segment.specs.Segment.{part_size, most_segments, is_acknowledgement, reading};
+ghost use Rattle.circus_segment.specs.Segment.{IsSegment, part_size, most_segments, is_acknowledgement};
 ghost use Rattle.circus_exchange.specs.Limits.{window, never_used};
 ghost use Rattle.circus_segment.specs.Seen.Pieces.{piece};
 ghost use Rattle.circus_exchange.specs.declared.taken.Arrived.TheVariants.{Nothing};
@@ -9,7 +9,6 @@ ghost use Rattle.circus_exchange.specs.declared.taken.Arrived.TheVariants.{Nothi
 use crate::inbox::Inbox;
 use crate::outbox::Outbox;
 use crate::taken::{Arrived, Taken, Ticked};
-use bytes::Bytes;
 use circus_segment::{CALL, Cut, Datagrams, LONGEST, RETURN, Segment, segment_count};
 use circus_value::{Message, NoMemory};
 use std::alloc::Global;
@@ -302,13 +301,8 @@ impl Exchange {
     }
 
     /// Takes a segment. After `NoMemory` nothing has changed.
-    pub fn take(
-        &mut self,
-        alloc: Global,
-        segment: &Segment<'_>,
-        datagram: &Bytes,
-    ) -> Result<Taken, NoMemory>
-        requires { reading datagram.now ≡ Ok (piece segment.now) }
+    pub fn take(&mut self, alloc: Global, segment: &Segment<'_>) -> Result<Taken, NoMemory>
+        requires { IsSegment (piece segment.now) }
         ensures datagrams { IfOk result (λ t.
             t.datagrams ≡ datagrams_after self.old (piece segment.now)) }
         ensures arrived { IfOk result (λ t.
@@ -324,7 +318,7 @@ impl Exchange {
                 dropped: true,
             });
         }
-        let (datagrams, arrived) = self.take_fitting(alloc, segment, datagram)?;
+        let (datagrams, arrived) = self.take_fitting(alloc, segment)?;
         Ok(Taken {
             datagrams,
             arrived,
@@ -337,9 +331,8 @@ impl Exchange {
         &mut self,
         alloc: Global,
         segment: &Segment<'_>,
-        datagram: &Bytes,
     ) -> Result<(Datagrams, Arrived), NoMemory>
-        requires { reading datagram.now ≡ Ok (piece segment.now) }
+        requires { IsSegment (piece segment.now) }
         ensures datagrams { IfOk result (λ t.
             t.0 ≡ datagrams_of_taken self.old (piece segment.now)) }
         ensures arrived { IfOk result (λ t.
@@ -356,11 +349,10 @@ impl Exchange {
             };
             return Ok((datagrams, Arrived::Nothing));
         }
-        let part = part_of(segment, datagram)?;
         if segment.kind == CALL {
-            self.take_call(alloc, segment, part)
+            self.take_call(alloc, segment)
         } else {
-            self.take_return(alloc, segment, part)
+            self.take_return(alloc, segment)
         }
     }
 
@@ -403,14 +395,12 @@ impl Exchange {
         &mut self,
         alloc: Global,
         segment: &Segment<'_>,
-        part: Bytes,
     ) -> Result<(Datagrams, Arrived), NoMemory>
         requires data_segment { is_acknowledgement (piece segment.now) ≡ false }
         requires call { segment.now.kind ≡ 0 }
         requires within { segment.now.number ≤ segment.now.total }
         requires total { segment.now.total ≤ most_segments 2 }
-        requires part { part ≡ segment.now.part.now }
-        requires short { length part ≤ part_size }
+        requires short { length segment.now.part.now ≤ part_size }
         ensures datagrams { IfOk result (λ t.
             t.0 ≡ datagrams_of_taken self.old (piece segment.now)) }
         ensures arrived { IfOk result (λ t. t.1 ≡ arrived_of_taken self.old (piece segment.now)) }
@@ -421,12 +411,12 @@ impl Exchange {
         let datagrams = advance.acknowledgement(alloc, self.stopped, segment)?;
         let arrived = match self
             .arriving_calls
-            .message_completed(alloc, segment, advance, &part)?
+            .message_completed(alloc, segment, advance)?
         {
             Some(message) => Arrived::ArrivedCall(segment.call, message),
             None => Arrived::Nothing,
         };
-        self.arriving_calls.add(alloc, segment, advance, part)?;
+        self.arriving_calls.add(alloc, segment, advance)?;
         self.ticks = 0;
         Ok((datagrams, arrived))
     }
@@ -436,14 +426,12 @@ impl Exchange {
         &mut self,
         alloc: Global,
         segment: &Segment<'_>,
-        part: Bytes,
     ) -> Result<(Datagrams, Arrived), NoMemory>
         requires data_segment { is_acknowledgement (piece segment.now) ≡ false }
         requires return_kind { segment.now.kind ≢ 0 }
         requires within { segment.now.number ≤ segment.now.total }
         requires total { segment.now.total ≤ most_segments 2 }
-        requires part { part ≡ segment.now.part.now }
-        requires short { length part ≤ part_size }
+        requires short { length segment.now.part.now ≤ part_size }
         ensures datagrams { IfOk result (λ t.
             t.0 ≡ datagrams_of_taken self.old (piece segment.now)) }
         ensures arrived { IfOk result (λ t. t.1 ≡ arrived_of_taken self.old (piece segment.now)) }
@@ -457,12 +445,12 @@ impl Exchange {
         self.send_let_go(alloc, in_flight, &mut datagrams)?;
         let arrived = match self
             .arriving_returns
-            .message_completed(alloc, segment, advance, &part)?
+            .message_completed(alloc, segment, advance)?
         {
             Some(message) => Arrived::ArrivedReturn(segment.call, message),
             None => Arrived::Nothing,
         };
-        self.arriving_returns.add(alloc, segment, advance, part)?;
+        self.arriving_returns.add(alloc, segment, advance)?;
         self.reach_call(alloc, segment.call, total);
         self.end_call(segment.call, advance.completes(segment));
         self.let_go();
@@ -524,13 +512,4 @@ impl Exchange {
     {
         self.stopped = true;
     }
-}
-
-// The data of a segment, which shares the bytes of its datagram.
-fn part_of(segment: &Segment<'_>, datagram: &Bytes) -> Result<Bytes, NoMemory>
-    requires { reading datagram.now ≡ Ok (piece segment.now) }
-    ensures part { IfOk result (λ part. part ≡ segment.now.part.now) }
-    ensures short { IfOk result (λ part. length part ≤ part_size) }
-{
-    datagram.slice(datagram.len() - segment.part.len()..)
 }

@@ -11,7 +11,7 @@ use std::alloc::Global;
 use std::collections::BTreeMap;
 use std::marker::Model;
 
-/// The data of one segment, shared with its datagram: at most 1,024 bytes. Clauses see the bytes.
+/// The data of one segment: at most 1,024 bytes. Clauses see the bytes.
 #[derive(Drop)]
 pub struct Part {
     bytes: Bytes,

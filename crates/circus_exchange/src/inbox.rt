@@ -103,16 +103,15 @@ impl Inbox {
         Advance { is_new, count }
     }
 
-    /// The message that a segment completes, if it completes one, its parts shared.
+    /// The message that a segment completes, if it completes one: a copy of its data, behind the parts that are there,
+    /// which are shared.
     pub fn message_completed(
         &self,
         alloc: Global,
         segment: &Segment<'_>,
         advance: Advance,
-        part: &Bytes,
     ) -> Result<Option<Parts>, NoMemory>
-        requires part { part.now ≡ segment.now.part.now }
-        requires short { length part.now ≤ part_size }
+        requires short { length segment.now.part.now ≤ part_size }
         requires total { segment.now.total ≤ most_segments 2 }
         requires completes { (advance.is_new && (advance.count == segment.now.total))
             ≡ completes self.now (piece segment.now) }
@@ -124,12 +123,11 @@ impl Inbox {
         if !advance.completes(segment) {
             return Ok(None);
         }
-        Ok(Some(self.message(alloc, segment, part)?))
+        Ok(Some(self.message(alloc, segment)?))
     }
 
-    fn message(&self, alloc: Global, segment: &Segment<'_>, part: &Bytes) -> Result<Parts, NoMemory>
-        requires part { part.now ≡ segment.now.part.now }
-        requires short { length part.now ≤ part_size }
+    fn message(&self, alloc: Global, segment: &Segment<'_>) -> Result<Parts, NoMemory>
+        requires short { length segment.now.part.now ≤ part_size }
         requires total { segment.now.total ≤ most_segments 2 }
         ensures { IfOk result (λ message.
             message ≡ data_up_to (data_with self.now (piece segment.now)) segment.now.total) }
@@ -137,21 +135,20 @@ impl Inbox {
         let parts = self.parts.of(segment.call);
         let mut message = Parts::new(alloc);
         for before in 0..segment.total {
-            message.add(data_with(parts, segment, part, before + 1)?)?;
+            message.add(data_with(alloc, parts, segment, before + 1)?)?;
         }
         Ok(message)
     }
 
-    /// Adds a segment. After `NoMemory` nothing has changed.
+    /// Adds a segment, of whose data a copy is kept where it is new and its message is not whole. After `NoMemory` nothing
+    /// has changed.
     pub fn add(
         &mut self,
         alloc: Global,
         segment: &Segment<'_>,
         advance: Advance,
-        part: Bytes,
     ) -> Result<(), NoMemory>
-        requires part { part ≡ segment.now.part.now }
-        requires short { length part ≤ part_size }
+        requires short { length segment.now.part.now ≤ part_size }
         requires is_new { advance.is_new ≡ is_new self.old (piece segment.now) }
         requires count { advance.count ≡ count_with self.old (piece segment.now) }
         ensures ok { OnOk result (self.new ≡ add_segment self.old (piece segment.now)) }
@@ -169,8 +166,8 @@ impl Inbox {
             self.parts.forget(segment.call);
             return Ok(());
         }
-        self.parts
-            .add(alloc, segment.call, segment.number, Part::of(part))?;
+        let part = Part::of(Bytes::copy_from_slice(alloc, segment.part)?);
+        self.parts.add(alloc, segment.call, segment.number, part)?;
         let noted = self.progress.insert(segment.call, progress);
         if noted.is_err() {
             self.parts.forget(segment.call);
@@ -231,20 +228,19 @@ fn part_at<'a>(parts: Option<&'a Series<Part>>, number: u16) -> Option<&'a Part>
 
 // The data of a number, with a segment.
 fn data_with(
+    alloc: Global,
     parts: Option<&Series<Part>>,
     segment: &Segment<'_>,
-    part: &Bytes,
     number: u16,
 ) -> Result<Bytes, NoMemory>
-    requires part { part.now ≡ segment.now.part.now }
-    requires short { length part.now ≤ part_size }
+    requires { length segment.now.part.now ≤ part_size }
     ensures value { IfOk result (λ bytes.
         bytes ≡ (if number == segment.now.number then segment.now.part.now
         else unwrap_or (part_of (option_copied parts.entry) number) [])) }
     ensures short { IfOk result (λ bytes. length bytes ≤ part_size) }
 {
     if number == segment.number {
-        return part.clone();
+        return Bytes::copy_from_slice(alloc, segment.part);
     }
     match part_at(parts, number) {
         Some(part) => part.share(),

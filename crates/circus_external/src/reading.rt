@@ -1,5 +1,5 @@
 // Reading values, by their shapes.
-ghost use Rattle.std.specs.Prelude.{◌≡◌, ◌≤◌, ◌==◌, length, drop};
+ghost use Rattle.std.specs.Prelude.{◌≡◌, ◌≤◌, ◌-◌, ◌/◌, ◌==◌, length, drop};
 ghost use Rattle.std.specs.List.{list_any};
 ghost use Rattle.circus_value.specs.ValueOf as values;
 ghost use Rattle.circus_value.specs.ShapeOf as shapes;
@@ -9,7 +9,9 @@ ghost use Rattle.circus_external.specs.Reading.{one_word, two_words, text_read, 
 
 use crate::piece::{read_content, read_long, read_word};
 use crate::{ByteSource, ExternalFault};
-use circus_value::{Arms, Chosen, Fields, Label, Octets, Shape, Value, Values, has_label};
+use circus_value::{
+    Arms, Chosen, Fields, Label, Shape, Text, Value, Values, ValuesBuilder, has_label,
+};
 use std::alloc::Global;
 
 /// The value of a shape whose bytes stand at a place, and the place behind them (docs/FORMATS.md,
@@ -45,8 +47,8 @@ pub fn read_from<S: ByteSource>(
             Ok((Value::LongInteger(number.cast_signed()), next))
         }
         Shape::Text => {
-            let (octets, next) = read_text(alloc, source, at)?;
-            Ok((Value::Text(octets), next))
+            let (text, next) = read_text(alloc, source, at)?;
+            Ok((Value::Text(text), next))
         }
         Shape::Enumeration(labels) => read_label(source, at, labels.as_slice()),
         Shape::Array(len, element) => {
@@ -98,13 +100,14 @@ fn read_text<S: ByteSource>(
     alloc: Global,
     source: &S,
     at: usize,
-) -> Result<(Octets, usize), ExternalFault>
+) -> Result<(Text, usize), ExternalFault>
     requires { at ≤ length (S.octets source.now) }
     ensures { Gives (λ octets.
         octets) (S.octets source.now) result (text_read at (drop at (S.octets source.now))) }
 {
     let (number, next) = read_word(source, at)?;
-    read_content(alloc, source, next, number)
+    let (octets, next) = read_content(alloc, source, next, number)?;
+    Ok((Text::of(alloc, octets)?, next))
 }
 
 // So many values of one shape.
@@ -121,14 +124,24 @@ fn read_items<S: ByteSource>(
         ts) (S.octets source.now) result
         (items_read (reading (shapes.tree_of shape.now)) count at (drop at (S.octets source.now))) }
 {
-    let mut items = Values::new(alloc);
+    let mut items = ValuesBuilder::with_capacity(alloc, room_for(source, at, count))?;
     let mut place = at;
     for _ in 0..count {
         let (item, next) = read_from(alloc, source, place, shape)?;
         items.push(item)?;
         place = next;
     }
-    Ok((items, place))
+    Ok((items.finish()?, place))
+}
+
+// How many values room is taken for where so many are said to stand at a place: no more than the bytes that are left can
+// spell, of which each value has two at least. Values without bytes, as records without fields, grow the list as they come.
+fn room_for<S: ByteSource>(source: &S, at: usize, count: u16) -> usize
+    requires { at ≤ length (S.octets source.now) }
+    ensures said { result ≤ count }
+    ensures left { result ≤ (length (S.octets source.now) - at) / 2 }
+{
+    usize::from(count).min((source.len() - at) / 2)
 }
 
 // A word for the number of values, at most a bound, and the values.
@@ -167,14 +180,14 @@ pub fn read_fields<S: ByteSource>(
         ts) (S.octets source.now) result
         (fields_reading (field_trees fields.now) at (drop at (S.octets source.now))) }
 {
-    let mut items = Values::new(alloc);
+    let mut items = ValuesBuilder::with_capacity(alloc, fields.as_slice().len())?;
     let mut place = at;
     for field in fields.as_slice() {
         let (item, next) = read_from(alloc, source, place, &field.shape)?;
         items.push(item)?;
         place = next;
     }
-    Ok((items, place))
+    Ok((items.finish()?, place))
 }
 
 // An arm's number and a value of the first arm with that number.

@@ -1,6 +1,6 @@
 -- Calls in slots, and where those are that pass a test.
-use Rattle.std.specs.Prelude.{option_and_then, nat_eq}
-use Rattle.std.proofs.Common.{◌≡◌, ℕ, suc, ◌+◌, ◌<◌, ◌≤◌, Bool, true, false, not, ◌&&◌, cond, List, [], ◌∷◌, ◌++◌, length, filter, get_or, take, drop, slice_get, slice_set, Option, Some, None, refl, sym, ap, ◌∙◌, inl, inr, arith, append_assoc, append-nil, length-append}
+use Rattle.std.specs.Prelude.{option_and_then, nat_eq, nat_le}
+use Rattle.std.proofs.Common.{◌≡◌, ℕ, suc, ◌+◌, ◌<◌, ◌≤◌, Bool, true, false, not, ◌&&◌, cond, List, [], ◌∷◌, ◌++◌, length, map, filter, get_or, take, drop, slice_get, slice_set, Option, Some, None, refl, sym, ap, ◌∙◌, inl, inr, arith, append_assoc, append-nil, length-append}
 use Rattle.std.specs.Option.{option_map_or}
 use Rattle.std.proofs.Math.Seq.{set-append_seam}
 use Rattle.std.proofs.lemmas.List.{drop_more, drop_all, take_more, length-take}
@@ -9,35 +9,79 @@ use Rattle.std.proofs.lemmas.List.Sums.{length-filter, count_by-le-length}
 use Rattle.std.proofs.lemmas.Bool.{eqb-true, eq-eqb, ne_eqb, cases_eq}
 use Rattle.circus_gather.specs.declared.held.HeldCall.{HeldCall}
 use Rattle.circus_gather.specs.declared.group.Group.{Group}
-use Rattle.circus_gather.specs.Gathering.{index_of, is_of_index}
+use Rattle.circus_collate.specs.declared.view.View.{View}
+use Rattle.circus_gather.specs.Gathering.{index_of, is_of_index, is_known, is_counted}
 use Rattle.circus_gather.specs.Seen.Groups.{is_in_group, stays, spare_call}
 use Rattle.circus_gather.specs.Seen.Slots.{items_in, places_from, item_at, calls_at, empty_slots}
 use Rattle.circus_collate.proofs.Going.{front}
 
-module _ {X : Type 0} where
-  -- ---- the calls at places, one after another
+-- ---- what is made of the calls at places, one after another
 
-  pub stood_more : (slots : List (Option X)) (places : List ℕ) (i : ℕ) (x y : X) (done whole : List X) → i < length places
-      → Some x ≡ item_at slots (get_or places i 0) → y ≡ x
-      → whole ≡ done ++ calls_at slots (drop i places) → whole ≡ (done ++ y ∷ []) ++ calls_at slots (drop (i + 1) places)
-  stood_more slots places i x y done whole few there made all =
+module _ {X B : Type 0} (f : X → B) where
+  pub made_more : (slots : List (Option X)) (places : List ℕ) (i : ℕ) (x : X) (y : B) (done whole : List B) → i < length places
+      → Some x ≡ item_at slots (get_or places i 0) → y ≡ f x
+      → whole ≡ done ++ map f (calls_at slots (drop i places)) → whole ≡ (done ++ y ∷ []) ++ map f (calls_at slots (drop (i + 1) places))
+  made_more slots places i x y done whole few there made all =
       let rest : List X = calls_at slots (drop (i + 1) places) in
-      all ∙ ap (λ ps. done ++ calls_at slots ps) (drop_more places i 0 few)
-      ∙ ap (λ o. done ++ option_map_or (λ z. z ∷ rest) o rest) (sym there)
-      ∙ ap (λ z. done ++ (z ∷ rest)) (sym made) ∙ sym (append_assoc done (y ∷ []) rest)
+      all ∙ ap (λ ps. done ++ map f (calls_at slots ps)) (drop_more places i 0 few)
+      ∙ ap (λ o. done ++ map f (option_map_or (λ z. z ∷ rest) o rest)) (sym there)
+      ∙ ap (λ z. done ++ (z ∷ map f rest)) (sym made) ∙ sym (append_assoc done (y ∷ []) (map f rest))
 
-  pub stood_none : (slots : List (Option X)) (places : List ℕ) (i : ℕ) (done whole : List X) → i < length places
+  pub made_none : (slots : List (Option X)) (places : List ℕ) (i : ℕ) (done whole : List B) → i < length places
       → None ≡ item_at slots (get_or places i 0)
-      → whole ≡ done ++ calls_at slots (drop i places) → whole ≡ done ++ calls_at slots (drop (i + 1) places)
-  stood_none slots places i done whole few there all =
+      → whole ≡ done ++ map f (calls_at slots (drop i places)) → whole ≡ done ++ map f (calls_at slots (drop (i + 1) places))
+  made_none slots places i done whole few there all =
       let rest : List X = calls_at slots (drop (i + 1) places) in
-      all ∙ ap (λ ps. done ++ calls_at slots ps) (drop_more places i 0 few)
-      ∙ ap (λ o. done ++ option_map_or (λ z. z ∷ rest) o rest) (sym there)
+      all ∙ ap (λ ps. done ++ map f (calls_at slots ps)) (drop_more places i 0 few)
+      ∙ ap (λ o. done ++ map f (option_map_or (λ z. z ∷ rest) o rest)) (sym there)
 
-  pub stood_all : (slots : List (Option X)) (places : List ℕ) (i : ℕ) (done whole : List X) → length places ≤ i
-      → whole ≡ done ++ calls_at slots (drop i places) → done ≡ whole
-  stood_all slots places i done whole all is = sym (is ∙ ap (λ ps. done ++ calls_at slots ps) (drop_all i places all) ∙ append-nil done)
+  pub made_all : (slots : List (Option X)) (places : List ℕ) (i : ℕ) (done whole : List B) → length places ≤ i
+      → whole ≡ done ++ map f (calls_at slots (drop i places)) → done ≡ whole
+  made_all slots places i done whole all is =
+      sym (is ∙ ap (λ ps. done ++ map f (calls_at slots ps)) (drop_all i places all) ∙ append-nil done)
 
+-- and of those that pass
+
+module _ {X B : Type 0} (p : X → Bool) (f : X → B) where
+  abbrev passed : List X → List B
+  passed xs = map f (filter p xs)
+
+  passed_there : (slots : List (Option X)) (places : List ℕ) (i : ℕ) (o : Option X) (done whole : List B) → i < length places
+      → o ≡ item_at slots (get_or places i 0) → whole ≡ done ++ passed (calls_at slots (drop i places))
+      → let rest : List X = calls_at slots (drop (i + 1) places) in whole ≡ done ++ passed (option_map_or (λ z. z ∷ rest) o rest)
+  passed_there slots places i o done whole few there all =
+      let rest : List X = calls_at slots (drop (i + 1) places) in
+      all ∙ ap (λ ps. done ++ passed (calls_at slots ps)) (drop_more places i 0 few)
+      ∙ ap (λ q. done ++ passed (option_map_or (λ z. z ∷ rest) q rest)) (sym there)
+
+  pub passed_more : (slots : List (Option X)) (places : List ℕ) (i : ℕ) (x : X) (y : B) (done whole : List B) → i < length places
+      → Some x ≡ item_at slots (get_or places i 0) → p x ≡ true → y ≡ f x
+      → whole ≡ done ++ map f (filter p (calls_at slots (drop i places))) → whole ≡ (done ++ y ∷ []) ++ map f (filter p (calls_at slots (drop (i + 1) places)))
+  passed_more slots places i x y done whole few there passes made all =
+      let rest : List X = calls_at slots (drop (i + 1) places) in
+      passed_there slots places i (Some x) done whole few there all
+      ∙ ap (λ b. done ++ map f (cond b (x ∷ filter p rest) (filter p rest))) passes
+      ∙ ap (λ z. done ++ (z ∷ passed rest)) (sym made) ∙ sym (append_assoc done (y ∷ []) (passed rest))
+
+  pub passed_over : (slots : List (Option X)) (places : List ℕ) (i : ℕ) (x : X) (done whole : List B) → i < length places
+      → Some x ≡ item_at slots (get_or places i 0) → p x ≡ false
+      → whole ≡ done ++ map f (filter p (calls_at slots (drop i places))) → whole ≡ done ++ map f (filter p (calls_at slots (drop (i + 1) places)))
+  passed_over slots places i x done whole few there fails all =
+      let rest : List X = calls_at slots (drop (i + 1) places) in
+      passed_there slots places i (Some x) done whole few there all
+      ∙ ap (λ b. done ++ map f (cond b (x ∷ filter p rest) (filter p rest))) fails
+
+  pub passed_none : (slots : List (Option X)) (places : List ℕ) (i : ℕ) (done whole : List B) → i < length places
+      → None ≡ item_at slots (get_or places i 0)
+      → whole ≡ done ++ map f (filter p (calls_at slots (drop i places))) → whole ≡ done ++ map f (filter p (calls_at slots (drop (i + 1) places)))
+  passed_none slots places i done whole few there all = passed_there slots places i None done whole few there all
+
+  pub passed_all : (slots : List (Option X)) (places : List ℕ) (i : ℕ) (done whole : List B) → length places ≤ i
+      → whole ≡ done ++ map f (filter p (calls_at slots (drop i places))) → done ≡ whole
+  passed_all slots places i done whole all is =
+      sym (is ∙ ap (λ ps. done ++ passed (calls_at slots ps)) (drop_all i places all) ∙ append-nil done)
+
+module _ {X : Type 0} where
   -- ---- all calls, one after another
 
   pub kept_more : (slots : List (Option X)) (i : ℕ) (o : Option X) (x y : X) (done whole : List X) → i < length slots → o ≡ get_or slots i o
@@ -190,6 +234,17 @@ apart n index other differ = elim (cases_eq n other) [
       ap (λ b. not b && nat_eq n other) not_here
   | inr unlike ↦ ap (λ b. not (nat_eq n index) && b) (ne_eqb n other unlike) ∙ never (not (nat_eq n index)) ∙ sym (ne_eqb n other unlike)
 ]
+
+-- of the calls that stand at the places of an index, those that count are all that count
+pub counted-places : («module» required : ℕ) (views : List View) (index : ℕ) (slots : List (Option HeldCall))
+    → filter (is_counted «module» required views index) (calls_at slots (places_from (is_of_index «module» index) 0 slots))
+    ≡ filter (is_counted «module» required views index) (items_in slots)
+unfolding is_counted
+counted-places «module» required views index slots =
+    let narrow = λ (call : HeldCall) (is : is_of_index «module» index call ≡ false).
+    ap (λ b. b && nat_le required call.header.server_incarnation && is_known views call.header.client call.header.client_incarnation) is in
+    ap (filter (is_counted «module» required views index)) (calls-places (is_of_index «module» index) slots)
+    ∙ filter-narrow (is_of_index «module» index) (is_counted «module» required views index) narrow (items_in slots)
 
 module _ («module» : ℕ) where
   -- once the calls of an index are gone, those of the others are where they were

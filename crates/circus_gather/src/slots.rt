@@ -8,11 +8,8 @@ use crate::places::Places;
 use circus_value::{ListOf, NoMemory};
 use std::alloc::Global;
 
-/// The calls by their values, in order of arrival.
-pub(crate) type Calls<'a> = ListOf<CallValue<'a>>;
-
-// The call in a slot.
-fn call_at(slots: &[Option<HeldCall>], place: usize) -> Option<&HeldCall>
+/// The call in a slot.
+pub(crate) fn call_at(slots: &[Option<HeldCall>], place: usize) -> Option<&HeldCall>
     ensures { option_copied result ≡ slots_seen.item_at slots.now place }
 {
     match slots.get(place) {
@@ -21,27 +18,12 @@ fn call_at(slots: &[Option<HeldCall>], place: usize) -> Option<&HeldCall>
     }
 }
 
-/// The calls at places.
-#[tactic(auto, using(crate::proofs::Standing::stood_more, crate::proofs::Standing::stood_none, crate::proofs::Standing::stood_all))]
-pub(crate) fn calls_at<'a>(
-    alloc: Global,
-    slots: &'a [Option<HeldCall>],
-    places: &[usize],
-) -> Result<Calls<'a>, NoMemory>
-    ensures { IfOk result (λ calls. calls ≡ slots_seen.calls_at slots.now places.now) }
-{
-    let mut calls = ListOf::new(alloc);
-    for place in places {
-        if let Some(call) = call_at(slots, *place) {
-            calls.push(CallValue::of(call))?;
-        }
-    }
-    Ok(calls)
-}
-
 /// All calls.
 #[tactic(auto, using(crate::proofs::Standing::kept_more, crate::proofs::Standing::kept_none, crate::proofs::Standing::kept_all))]
-pub(crate) fn all_calls(alloc: Global, slots: &[Option<HeldCall>]) -> Result<Calls<'_>, NoMemory>
+pub(crate) fn all_calls(
+    alloc: Global,
+    slots: &[Option<HeldCall>],
+) -> Result<ListOf<CallValue<'_>>, NoMemory>
     ensures { IfOk result (λ calls. calls ≡ slots_seen.items_in slots.now) }
 {
     let mut calls = ListOf::new(alloc);

@@ -2,13 +2,14 @@
 ghost use Rattle.std.specs.Prelude.{◌≡◌, not, ◌++◌, [], ◌∷◌, filter, map, OnOk, OnErr, IfOk};
 ghost use Rattle.circus_gather.specs.Gathering as gathering;
 ghost use Rattle.circus_gather.specs.Seen.Groups.{is_in_group};
+ghost use Rattle.circus_gather.specs.Seen.Slots as slots_seen;
 
 use crate::HeldCall;
 use crate::call_value::CallValue;
 use crate::group::{Group, is_of_index};
 use crate::held::index_of;
 use crate::places::{Places, note, places_without, take};
-use crate::slots::{Calls, all_calls, calls_at, empty_slots, give_up};
+use crate::slots::{all_calls, call_at, empty_slots, give_up};
 use circus_collate::{Said, Views};
 use circus_value::{Callers, ListOf, NoMemory};
 use indexmap::IndexMap;
@@ -69,25 +70,16 @@ impl Waiting {
         Ok(())
     }
 
-    // The calls of an index.
-    fn of_index(&self, index: u32) -> Result<Calls<'_>, NoMemory>
-        ensures { IfOk result (λ calls.
-            calls ≡ filter (gathering.is_of_index self.now.«module» index) self.now.calls) }
-    {
-        match self.places.get(&index) {
-            Some(places) => calls_at(self.alloc, self.slots.as_slice(), places.as_slice()),
-            None => Ok(ListOf::new(self.alloc)),
-        }
-    }
-
     /// Who made the calls of an index, in order of arrival.
     pub fn callers_of(&self, index: u32) -> Result<Callers, NoMemory>
         ensures { IfOk result (λ callers.
             callers ≡ gathering.callers
             (filter (gathering.is_of_index self.now.«module» index) self.now.calls)) }
     {
-        let calls = self.of_index(index)?;
-        senders(self.alloc, calls.as_slice())
+        match self.places.get(&index) {
+            Some(places) => senders_at(self.alloc, self.slots.as_slice(), places.as_slice()),
+            None => Ok(ListOf::new(self.alloc)),
+        }
     }
 
     /// Takes out the calls of an index.
@@ -138,25 +130,36 @@ impl Waiting {
             (filter (gathering.is_counted self.now.«module» required views.now index)
             self.now.calls)) }
     {
-        let calls = self.of_index(index)?;
-        calls_that_count(
-            self.alloc,
-            self.module,
-            calls.as_slice(),
-            required,
-            views,
-            index,
-        )
+        match self.places.get(&index) {
+            Some(places) => said_at(
+                self.alloc,
+                self.module,
+                self.slots.as_slice(),
+                places.as_slice(),
+                required,
+                views,
+                index,
+            ),
+            None => Ok(ListOf::new(self.alloc)),
+        }
     }
 }
 
-#[tactic(auto, using(circus_collate::proofs::Going::map_more, circus_collate::proofs::Going::map_all))]
-fn senders(alloc: Global, calls: &[CallValue<'_>]) -> Result<Callers, NoMemory>
-    ensures { IfOk result (λ callers. callers ≡ gathering.callers calls.now) }
+// Who made the calls at places.
+#[tactic(auto, using(crate::proofs::Standing::made_more, crate::proofs::Standing::made_none, crate::proofs::Standing::made_all))]
+fn senders_at(
+    alloc: Global,
+    slots: &[Option<HeldCall>],
+    places: &[usize],
+) -> Result<Callers, NoMemory>
+    ensures { IfOk result (λ callers.
+        callers ≡ gathering.callers (slots_seen.calls_at slots.now places.now)) }
 {
     let mut callers = ListOf::new(alloc);
-    for call in calls {
-        callers.push(call.sender())?;
+    for place in places {
+        if let Some(call) = call_at(slots, *place) {
+            callers.push(call.sender)?;
+        }
     }
     Ok(callers)
 }
@@ -180,23 +183,28 @@ fn callers_in(
     Ok(callers)
 }
 
-#[tactic(auto, using(circus_collate::proofs::Going::made_more, circus_collate::proofs::Going::passed_over, circus_collate::proofs::Going::made_all))]
-fn calls_that_count<'a>(
+// What is said by the calls at places that count for a run.
+#[tactic(auto, using(crate::proofs::Standing::passed_more, crate::proofs::Standing::passed_over, crate::proofs::Standing::passed_none, crate::proofs::Standing::passed_all))]
+fn said_at<'a>(
     alloc: Global,
     module: u16,
-    calls: &[CallValue<'a>],
+    slots: &'a [Option<HeldCall>],
+    places: &[usize],
     required: u32,
     views: &Views,
     index: u32,
 ) -> Result<ListOf<Said<CallValue<'a>>>, NoMemory>
     ensures { IfOk result (λ said.
         said ≡ map gathering.as_said
-        (filter (gathering.is_counted «module» required views.now index) calls.now)) }
+        (filter (gathering.is_counted «module» required views.now index)
+        (slots_seen.calls_at slots.now places.now))) }
 {
     let mut said = ListOf::new(alloc);
-    for call in calls {
-        if is_counted(module, required, views, index, call.call()) {
-            said.push(as_said(call.call()))?;
+    for place in places {
+        if let Some(call) = call_at(slots, *place)
+            && is_counted(module, required, views, index, call)
+        {
+            said.push(as_said(call))?;
         }
     }
     Ok(said)

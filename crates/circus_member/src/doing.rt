@@ -116,8 +116,7 @@ impl<M: Module> Doing<M> {
                 Ok((doing, None))
             }
             Occurrence::Restored { state, count } => {
-                let restored = Box::into_inner(doing).handle_state(at, state, count)?;
-                Ok((restored.into_box()?, None))
+                Ok((Doing::restore(doing, at, state, count)?, None))
             }
             Occurrence::Declared(node) => {
                 inside.handle_down(node)?;
@@ -314,6 +313,22 @@ impl<M: Module> Doing<M> {
         )
     }
 
+    // A state comes to a member in a box.
+    fn restore(doing: Box<Self>, at: u64, state: State, count: u32) -> Result<Box<Self>, NoMemory>
+        requires sound { let m = doing.value.member in
+            IsSound (behaviour M.declared M.turn M.first m.performing.hosted) m }
+        requires state { IsState (M.declared doing.value.member.performing.hosted) state }
+        ensures kept { IfOk result (λ d.
+            d.value ≡ behind doing.value (step.handle_state at doing.value.member state count)) }
+        ensures sound { IfOk result (λ d.
+            IsSound (behaviour M.declared M.turn M.first d.value.member.performing.hosted)
+            d.value.member) }
+    {
+        Box::into_inner(doing)
+            .handle_state(at, state, count)?
+            .into_box()
+    }
+
     // A state comes: one that fetches a state has it, and is active from its count on.
     fn handle_state(mut self, at: u64, state: State, count: u32) -> Result<Self, NoMemory>
         requires sound { IsSound
@@ -364,7 +379,7 @@ impl<M: Module> Doing<M> {
         'starts: loop {
             doing.give_states()?;
             match doing.next_start()? {
-                Some(start) => doing = Box::into_inner(doing).enter(start, at)?.into_box()?,
+                Some(start) => doing = Doing::enter_boxed(doing, start, at)?,
                 None => return Ok(doing),
             }
         }
@@ -377,7 +392,7 @@ impl<M: Module> Doing<M> {
         ensures { IfOk result (λ d. d.value ≡ step.answered_open M.turn at doing.value) }
     {
         match doing.value_of_open()? {
-            Some(reply) => Box::into_inner(doing).answer(reply, at)?.into_box(),
+            Some(reply) => Doing::answer_boxed(doing, reply, at),
             None => Ok(doing),
         }
     }
@@ -395,6 +410,16 @@ impl<M: Module> Doing<M> {
             Some(reply) => Ok(Some(reply.copy()?)),
             None => Ok(None),
         }
+    }
+
+    // So of a member in a box, out of which it comes only here and in `enter_boxed`: its performer is handed over by value.
+    fn answer_boxed(doing: Box<Self>, reply: Reply, at: u64) -> Result<Box<Self>, NoMemory>
+        requires sound { let m = doing.value.member in
+            IsSound (behaviour M.declared M.turn M.first m.performing.hosted) m }
+        requires value { step.value_of_open doing.value.member ≡ Some reply }
+        ensures { IfOk result (λ d. d.value ≡ step.answered_by M.turn at doing.value reply) }
+    {
+        Box::into_inner(doing).answer(reply, at)?.into_box()
     }
 
     fn answer(mut self, reply: Reply, at: u64) -> Result<Self, NoMemory>
@@ -420,6 +445,16 @@ impl<M: Module> Doing<M> {
         self.member = self.member.enter(start, at)?;
         self.after_turns()?;
         Ok(self)
+    }
+
+    fn enter_boxed(doing: Box<Self>, start: RunStart, at: u64) -> Result<Box<Self>, NoMemory>
+        requires sound { let m = doing.value.member in
+            IsSound (behaviour M.declared M.turn M.first m.performing.hosted) m }
+        requires may { let m = doing.value.member in
+            MayStart (M.declared m.performing.hosted) m start }
+        ensures { IfOk result (λ d. d.value ≡ step.enter_run_of M.turn at doing.value start) }
+    {
+        Box::into_inner(doing).enter(start, at)?.into_box()
     }
 
     // Behind turns of the last run: it asks, or has ended.
@@ -497,7 +532,7 @@ impl<M: Module> Doing<M> {
         let reply = reply_of_run(self.member.alloc, last)?;
         let message = reply_message(self.member.alloc, &reply)?;
         let callers = self.member.gather.finish(index, reply)?;
-        answer_all(&callers, &message, &mut self.effects)
+        answer_all(self.member.alloc, &callers, message, &mut self.effects)
     }
 
     // Those that asked for its state are given it.
@@ -513,7 +548,12 @@ impl<M: Module> Doing<M> {
         let record = self.member.performer.record();
         let variables = &self.member.performer.signature().variables;
         let message = snapshot(self.member.alloc, &record.state, variables, record.count)?;
-        answer_all(&self.member.requests, &message, &mut self.effects)?;
+        answer_all(
+            self.member.alloc,
+            &self.member.requests,
+            message,
+            &mut self.effects,
+        )?;
         self.member.requests = ListOf::new(self.member.alloc);
         Ok(())
     }

@@ -1,5 +1,6 @@
 // A member of a troupe.
 ghost use Rattle.std.specs.Prelude.{◌≡◌, ◌≤◌, length, [], IfOk, option_copied, option_map};
+ghost use Rattle.std.specs.Option.{option_to_list};
 ghost use Rattle.circus_limits.specs.Limits.{most_modules};
 ghost use Rattle.circus_fanout.specs.Asking.{Asking};
 ghost use Rattle.circus_member_rules.specs.OpenAsks.{asking_of};
@@ -82,29 +83,32 @@ impl<M: Module> Member<M> {
     }
 
     /// What happens in a step, and what it makes: the member, the calls and returns in their order, and a reply that
-    /// differs. After `NoMemory` the member is gone.
+    /// differs, where there is one. After `NoMemory` the member is gone.
     pub fn step(
         self,
         at: u64,
         occurrence: Occurrence,
-    ) -> Result<(Self, Effects, Option<Difference>), NoMemory>
+    ) -> Result<(Self, Effects, ListOf<Difference>), NoMemory>
         requires { CanHappen (M.declared self.performing.hosted) self occurrence }
         ensures member { IfOk result (λ stepped.
             stepped.0 ≡ (step.step_member M.declared M.turn at occurrence self).member) }
         ensures effects { IfOk result (λ stepped.
             stepped.1 ≡ (step.step_member M.declared M.turn at occurrence self).effects) }
-        ensures difference { IfOk result (λ stepped. stepped.2 ≡ step.difference occurrence self) }
+        ensures differences { IfOk result (λ stepped.
+            stepped.2 ≡ option_to_list (step.difference occurrence self)) }
         ensures rest { IfOk result (λ stepped. HasGoneOn stepped.0) }
     {
         let Member { doing } = self;
         let waited = doing.waited();
         let concern = concern_of(&occurrence);
+        let alloc = doing.member.alloc;
         let (doing, difference) = Doing::handle(doing, at, occurrence)?;
+        let differences = list_of(alloc, difference)?;
         let mut doing = Doing::execute(doing, at)?;
         doing.close(concern, waited);
         doing.look_up()?;
         let (member, effects) = Member::of(doing);
-        Ok((member, effects, difference))
+        Ok((member, effects, differences))
     }
 
     /// Where it stands. It takes no memory.
@@ -155,6 +159,17 @@ impl<M: Module> Member<M> {
         let effects = doing.take_effects();
         (Member { doing }, effects)
     }
+}
+
+// A reply that differs, in a list, which moves as few words and takes memory only where there is one.
+fn list_of(alloc: Global, difference: Option<Difference>) -> Result<ListOf<Difference>, NoMemory>
+    ensures { IfOk result (λ differences. differences ≡ option_to_list difference) }
+{
+    let mut differences = ListOf::new(alloc);
+    if let Some(difference) = difference {
+        differences.push(difference)?;
+    }
+    Ok(differences)
 }
 
 // A founder of a root enters its MAIN.

@@ -17,3 +17,4 @@ pub mod Resting
 pub mod Concerned
 pub mod Unsettled
 pub mod Done
+pub mod Lasts

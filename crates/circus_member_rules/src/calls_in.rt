@@ -5,27 +5,49 @@ ghost use Rattle.circus_gather.specs.Gathering as gathering;
 ghost use Rattle.circus_member_rules.specs.Rules as rules;
 ghost use Rattle.circus_member_rules.specs.Callable.{AreReplies, MayAnswer};
 
-use crate::messages::{before_message, reply_message, stale_message};
+use crate::messages::{before_message, copy_of, reply_message, stale_message};
 use crate::{Effect, Effects};
 use circus_fanout::Known;
 use circus_gather::{Added, Gather};
 use circus_header::CallHeader;
-use circus_value::{Caller, Callers, Duplicate, Message, NoMemory, Parts};
+use circus_value::{Caller, Callers, Message, NoMemory, Parts};
 use std::alloc::Global;
 
 /// Answers each of these calls with a message. `NoMemory` where memory runs out; some may have been answered then.
-#[tactic(auto, using(circus_collate::proofs::Going::map_more, circus_collate::proofs::Going::map_all))]
+#[tactic(auto, using(crate::proofs::Lasts::made_of_none, crate::proofs::Lasts::made_of_last))]
 pub fn answer_all(
+    alloc: Global,
     callers: &Callers,
+    message: Message,
+    effects: &mut Effects,
+) -> Result<(), NoMemory>
+    ensures { OnOk result (effects.new ≡ effects.old ++ rules.answers message callers.now) }
+{
+    let Some((last, before)) = callers.as_slice().split_last() else {
+        return Ok(());
+    };
+    answer_each(alloc, before, &message, effects)?;
+    effects.push(Effect::Answer {
+        caller: *last,
+        message,
+    })?;
+    Ok(())
+}
+
+// Answers each of these calls with a copy of a message.
+#[tactic(auto, using(circus_collate::proofs::Going::map_more, circus_collate::proofs::Going::map_all))]
+fn answer_each(
+    alloc: Global,
+    callers: &[Caller],
     message: &Message,
     effects: &mut Effects,
 ) -> Result<(), NoMemory>
     ensures { OnOk result (effects.new ≡ effects.old ++ rules.answers message.now callers.now) }
 {
-    for caller in callers.as_slice() {
+    for caller in callers {
         effects.push(Effect::Answer {
             caller: *caller,
-            message: message.copy()?,
+            message: copy_of(alloc, message)?,
         })?;
     }
     Ok(())
@@ -98,7 +120,7 @@ pub fn take_state_request(
 {
     let callers = gather.require(incarnation)?;
     let message = stale_message(alloc, gather.required_incarnation())?;
-    answer_all(&callers, &message, effects)?;
+    answer_all(alloc, &callers, message, effects)?;
     requests.push(sender)
 }
 
@@ -116,5 +138,5 @@ pub fn begin_at(
 {
     let callers = gather.activate(first)?;
     let message = before_message(alloc, first)?;
-    answer_all(&callers, &message, effects)
+    answer_all(alloc, &callers, message, effects)
 }

@@ -2,15 +2,19 @@
 ghost use Rattle.std.specs.Prelude.{◌≡◌, ◌++◌, All, slice_get, IfOk, OnOk, option_copied};
 ghost use Rattle.circus_header.specs.CallFields.{IsIncarnation};
 ghost use Rattle.circus_fanout.specs.Asking as asking;
+ghost use Rattle.circus_member_rules.specs.declared.occurrence.Effect.TheVariants.{Call};
+ghost use Rattle.circus_member_rules.specs.declared.occurrence.Purpose.TheVariants.{Ask};
+ghost use Rattle.circus_member_rules.specs.Messages.{ask_message};
 ghost use Rattle.circus_member_rules.specs.Rules as rules;
 ghost use Rattle.circus_member_rules.specs.Seen.Closing as closing;
 ghost use Rattle.circus_member_rules.specs.Callable.{AreViews, MayCall, CallsAView};
 
+use crate::messages::copy_of;
 use crate::{AskName, Difference, Effect, Effects, Purpose};
 use circus_collate::{Collated, Said, View};
 use circus_fanout::{Fanout, Known, Next, Send, Watched};
 use circus_header::{Reply, ask_bytes};
-use circus_value::{Duplicate, NoMemory};
+use circus_value::{Duplicate, Message, NoMemory};
 use std::alloc::Global;
 
 // The incarnation of a troupe's view.
@@ -42,19 +46,65 @@ pub(crate) fn call_of_ask(
     requires view { IsIncarnation send.incarnation }
     ensures { IfOk result (λ call. call ≡ rules.call_of_ask known.now name fanout.now send) }
 {
+    let message = bytes_of_ask(alloc, known, fanout, send)?;
+    Ok(call_with(name, fanout, send, message))
+}
+
+// The bytes of that call.
+fn bytes_of_ask(
+    alloc: Global,
+    known: &Known,
+    fanout: &Fanout,
+    send: Send,
+) -> Result<Message, NoMemory>
+    requires may { MayCall known.now fanout.now }
+    requires view { IsIncarnation send.incarnation }
+    ensures { IfOk result (λ bytes.
+        bytes ≡ ask_message (rules.header_now known.now fanout.now send) fanout.now.body) }
+{
     let header = fanout.header();
     let own = incarnation_of(known, header.client);
-    let message = ask_bytes(alloc, header, own, send.incarnation, fanout.body())?;
-    Ok(Effect::Call {
+    ask_bytes(alloc, header, own, send.incarnation, fanout.body())
+}
+
+// The call that has these bytes.
+fn call_with(name: AskName, fanout: &Fanout, send: Send, message: Message) -> Effect
+    ensures { result ≡ Call send.node message (Ask name fanout.now.header.server) }
+{
+    Effect::Call {
         to: send.node,
         message,
-        purpose: Purpose::Ask(name, header.server),
-    })
+        purpose: Purpose::Ask(name, fanout.header().server),
+    }
+}
+
+// The bytes of a call of an ask, by those of another, which are copied where the two name the same view.
+#[tactic(auto, using(crate::proofs::Lasts::same_bytes))]
+fn bytes_alike(
+    alloc: Global,
+    known: &Known,
+    fanout: &Fanout,
+    other: Send,
+    bytes: &Message,
+    send: Send,
+) -> Result<Message, NoMemory>
+    requires may { MayCall known.now fanout.now }
+    requires view { IsIncarnation send.incarnation }
+    requires other { bytes.now
+        ≡ ask_message (rules.header_now known.now fanout.now other) fanout.now.body }
+    ensures { IfOk result (λ bytes.
+        bytes ≡ ask_message (rules.header_now known.now fanout.now send) fanout.now.body) }
+{
+    if send.incarnation == other.incarnation {
+        copy_of(alloc, bytes)
+    } else {
+        bytes_of_ask(alloc, known, fanout, send)
+    }
 }
 
 /// Makes the calls of an ask, in order (docs/PROTOCOL.md, "Calls out"). `NoMemory` where memory runs out; some may have been
 /// made then.
-#[tactic(auto, using(circus_collate::proofs::Going::map_more, circus_collate::proofs::Going::map_all))]
+#[tactic(auto, using(crate::proofs::Lasts::made_of_none, crate::proofs::Lasts::made_of_last, crate::proofs::Lasts::holds_before, crate::proofs::Lasts::holds_last))]
 pub fn calls_of_ask(
     alloc: Global,
     known: &Known,
@@ -68,8 +118,37 @@ pub fn calls_of_ask(
     ensures { OnOk result
         (effects.new ≡ effects.old ++ rules.calls_of_ask known.now name fanout.now sends.now) }
 {
+    let Some((last, before)) = sends.split_last() else {
+        return Ok(());
+    };
+    let bytes = bytes_of_ask(alloc, known, fanout, *last)?;
+    calls_alike(alloc, known, name, fanout, *last, &bytes, before, effects)?;
+    effects.push(call_with(name, fanout, *last, bytes))?;
+    Ok(())
+}
+
+// Makes calls of an ask by the bytes of another one.
+#[tactic(auto, using(circus_collate::proofs::Going::map_more, circus_collate::proofs::Going::map_all))]
+fn calls_alike(
+    alloc: Global,
+    known: &Known,
+    name: AskName,
+    fanout: &Fanout,
+    other: Send,
+    bytes: &Message,
+    sends: &[Send],
+    effects: &mut Effects,
+) -> Result<(), NoMemory>
+    requires may { MayCall known.now fanout.now }
+    requires views { All (λ send. IsIncarnation send.incarnation) sends.now }
+    requires other { bytes.now
+        ≡ ask_message (rules.header_now known.now fanout.now other) fanout.now.body }
+    ensures { OnOk result
+        (effects.new ≡ effects.old ++ rules.calls_of_ask known.now name fanout.now sends.now) }
+{
     for send in sends {
-        effects.push(call_of_ask(alloc, known, name, fanout, *send)?)?;
+        let message = bytes_alike(alloc, known, fanout, other, bytes, *send)?;
+        effects.push(call_with(name, fanout, *send, message))?;
     }
     Ok(())
 }

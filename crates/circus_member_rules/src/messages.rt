@@ -73,6 +73,15 @@ pub fn body_of(alloc: Global, values: &Values) -> Result<Message, NoMemory>
     Ok(body)
 }
 
+/// A copy of a message, in one piece.
+pub(crate) fn copy_of(alloc: Global, message: &Message) -> Result<Message, NoMemory>
+    ensures { IfOk result (λ copy. copy ≡ message.now) }
+{
+    let mut copy = ListOf::of(Vec::with_capacity(alloc, message.len())?);
+    copy.append(message.as_slice())?;
+    Ok(copy)
+}
+
 fn call_message(alloc: Global, call: &Call) -> Result<Message, NoMemory>
     requires { IsCall call.now }
     ensures { IfOk result (λ message. message ≡ bytes_of (call_fields call.now)) }

@@ -253,10 +253,14 @@ fn runs_of_root<M: Module>(
     Ok(thread.runs)
 }
 
-// Puts runs behind others.
+// Puts runs behind others. Where there are no others they are not copied.
 fn append(into: &mut Vec<Run>, more: Vec<Run>) -> Result<(), NoMemory>
     ensures { OnOk result (into.new.items ≡ into.old.items ++ more.items) }
 {
+    if into.is_empty() {
+        *into = more;
+        return Ok(());
+    }
     for run in more {
         into.push(run)?;
     }

@@ -6,7 +6,7 @@ ghost use Rattle.circus_value.specs.ShapeTree.{arm_trees};
 ghost use Rattle.circus_type.specs.Written as written;
 ghost use Rattle.circus_modules.specs.Zeros.{zeros};
 
-use circus_value::{Arm, Chosen, Duplicate, Field, Label, ListOf, NoMemory, Shape, Value, Values};
+use circus_value::{Arm, Chosen, Duplicate, Field, Label, NoMemory, Shape, Text, Value, Values};
 use std::alloc::Global;
 
 /// The zero value of a shape: FALSE, 0, empty, the first label or arm, and zeros within (docs/LANGUAGE.md, "Interfaces").
@@ -22,7 +22,7 @@ pub(crate) fn zero_value(alloc: Global, shape: &Shape) -> Result<Value, NoMemory
         Shape::LongCardinal => Value::LongCardinal(0),
         Shape::Integer => Value::Integer(0),
         Shape::LongInteger => Value::LongInteger(0),
-        Shape::Text => Value::Text(ListOf::new(alloc)),
+        Shape::Text => Value::Text(Text::new()),
         Shape::Enumeration(labels) => Value::Enumeration(first_label(labels.as_slice())),
         Shape::Array(len, element) => {
             let item = zero_value(alloc, element.shape())?;

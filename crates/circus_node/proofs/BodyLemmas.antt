@@ -1,10 +1,10 @@
 -- Values that are read: which they are, and that they fit.
 use Rattle.std.proofs.Common.{◌≡◌, ℕ, ◌-◌, ◌<◌, ◌≤◌, Bool, true, false, List, [], ◌∷◌, length, drop, Option, None, Some, Ok, refl, sym, ap, ◌∙◌, subst, arith, append-nil, length-drop}
-use Rattle.std.specs.Prelude.{nat_eq, nat_lt, IfSome, if◌then◌else◌}
+use Rattle.std.specs.Prelude.{nat_eq, nat_le, nat_lt, is_some, IfSome, if◌then◌else◌}
 use Rattle.std.specs.Bool.{then_some}
 use Rattle.std.proofs.Common.{inl, inr}
 use Rattle.std.proofs.lemmas.List.{drop_all}
-use Rattle.std.proofs.lemmas.Bool.{le-leb}
+use Rattle.std.proofs.lemmas.Bool.{le-leb, leb-true}
 use Rattle.std.proofs.lemmas.Bool.Decides.{eqb_tells}
 use Rattle.circus_value.specs.ValueTree.{value_trees}
 use Rattle.circus_external.proofs.ShapesAlike.{and_both}
@@ -20,6 +20,7 @@ use Rattle.circus_external.specs.Reading.{fields_reading}
 use Rattle.circus_external.specs.Spelling.{fields_admit, spelling_of_all}
 use Rattle.circus_external.specs.Seen.Given.{Gives}
 use Rattle.circus_transfer.specs.Snapshot.{fields_of, snapshot_fields, snapshot_values}
+use Rattle.circus_transfer.specs.Seen.Ending.{EndsAt}
 use Rattle.circus_transfer.proofs.Fields.{admits}
 use Rattle.circus_node.specs.Bodies.{found_whole, values_at}
 use Rattle.circus_node.specs.Seen.Can.{AreOf}
@@ -77,12 +78,34 @@ found_fit shapes most at bytes values octets few is = by_answer (fields_reading 
     by_answer (not_a_value place) read e = absurd (let clash : ◌≡◌ {A = Option (List ValueTree)} None (Some values) = e in cc)
     by_answer (bad_pad place) read e = absurd (let clash : ◌≡◌ {A = Option (List ValueTree)} None (Some values) = e in cc)
 
+-- what stands at a place fits
+pub stands_fit : (shapes : List Shape) (most at : ℕ) (bytes : List ℕ) → AreOctets bytes → IfSome (values_at shapes most at bytes) (AreOf shapes most)
+stands_fit shapes most at bytes octets = by_length (nat_le (length bytes - at) most) refl
+  where
+    whole : Option (List ValueTree)
+    whole = found_whole (fields_reading (fields_of shapes) at (drop at bytes))
+
+    by_values : (o : Option (List ValueTree)) → length bytes - at ≤ most → whole ≡ o → IfSome o (AreOf shapes most)
+    by_values None few is = tt
+    by_values (Some values) few is = found_fit shapes most at bytes values octets few is
+
+    by_length : (b : Bool) → nat_le (length bytes - at) most ≡ b → IfSome (if b then whole else None) (AreOf shapes most)
+    by_length true is = by_values whole (leb-true (length bytes - at) most is) refl
+    by_length false is = tt
+
 pub values_fit : (shapes : List Shape) (most at : ℕ) (bytes : List ℕ) (r : Option (List ValueTree))
-    → AreOctets bytes → length bytes - at ≤ most → r ≡ values_at shapes most at bytes → IfSome r (AreOf shapes most)
-values_fit shapes most at bytes None octets few is = tt
-values_fit shapes most at bytes (Some values) octets few is =
-    found_fit shapes most at bytes values octets few
-    (ap (λ b. if b then found_whole (fields_reading (fields_of shapes) at (drop at bytes)) else None) (sym (le-leb (length bytes - at) most few)) ∙ sym is)
+    → AreOctets bytes → r ≡ values_at shapes most at bytes → IfSome r (AreOf shapes most)
+values_fit shapes most at bytes r octets is = subst (λ o. IfSome o (AreOf shapes most)) (sym is) (stands_fit shapes most at bytes octets)
+
+is_then_some : {A : Type 0} (b : Bool) (x : A) → b ≡ is_some (then_some b x)
+is_then_some true x = refl
+is_then_some false x = refl
+
+-- whether values stand there, by the place behind them
+pub end_given : (shapes : List Shape) (most at end : ℕ) (bytes : List ℕ) → length bytes - at ≤ most
+    → EndsAt bytes (Ok end) (fields_reading (fields_of shapes) at (drop at bytes)) → nat_eq end (length bytes) ≡ is_some (values_at shapes most at bytes)
+end_given shapes most at end bytes few gives =
+    is_then_some (nat_eq end (length bytes)) gives.0 ∙ ap is_some (values_given shapes most at end bytes gives.0 _ few gives.1 refl)
 
 -- ---- states
 

@@ -1,6 +1,5 @@
 // What a node does: it hosts a member, or it is the Ringmaster's.
 ghost use Rattle.std.specs.Prelude.{◌≡◌, ◌<◌, [], length, IfOk, OnOk, option_copied};
-ghost use Rattle.std.specs.Option.{option_to_list};
 ghost use Rattle.circus_collate.specs.declared.deployment.Deployment.{Deployment as Deployed};
 ghost use Rattle.circus_ring.specs.RingTable as ring_table;
 ghost use Rattle.circus_ring.specs.TableFields.{IsTable};
@@ -18,7 +17,7 @@ use crate::{Differences, accept, accept_request};
 use circus_collate::{Deployment, Table, Views};
 use circus_header::{Request, ReturnHeader, write_return};
 use circus_member::Member;
-use circus_member_rules::{Difference, Effect, Effects, Occurrence, Purpose};
+use circus_member_rules::{Effect, Effects, Occurrence, Purpose};
 use circus_model::Module;
 use circus_record::MemberRecord;
 use circus_ring::{Ring, write_table};
@@ -58,20 +57,15 @@ impl Consequences {
         }
     }
 
-    // Calls and returns, and a reply that differs where there is one.
-    fn of(alloc: Global, effects: Effects, difference: Option<Difference>) -> Result<Self, NoMemory>
-        ensures { IfOk result (λ came.
-            came ≡ making.consequences effects (option_to_list difference)) }
+    // Calls and returns, and the replies that differ.
+    fn of(effects: Effects, differences: Differences) -> Self
+        ensures { result ≡ making.consequences effects differences }
     {
-        let mut differences = ListOf::new(alloc);
-        if let Some(difference) = difference {
-            differences.push(difference)?;
-        }
-        Ok(Consequences {
+        Consequences {
             effects,
             differences,
             dropped: false,
-        })
+        }
     }
 }
 
@@ -135,7 +129,7 @@ impl<M: Module> Acting<M> {
                     home.beginning,
                     hosted,
                 )?;
-                let came = Consequences::of(alloc, effects, None)?;
+                let came = Consequences::of(effects, ListOf::new(alloc));
                 Ok((Acting::member(member), came))
             }
             _ => {
@@ -204,7 +198,7 @@ impl<M: Module> Acting<M> {
         match role {
             Role::Member(member) => {
                 match accept(alloc, deployment, &member, from, heard)? {
-                    Some(occurrence) => happen(alloc, member, at, occurrence),
+                    Some(occurrence) => happen(member, at, occurrence),
                     None => Ok((Acting::member(member), Consequences::a_drop(alloc))),
                 }
             }
@@ -230,7 +224,7 @@ impl<M: Module> Acting<M> {
     {
         let Acting { role } = self;
         match role {
-            Role::Member(member) => happen(alloc, member, at, Occurrence::Declared(node)),
+            Role::Member(member) => happen(member, at, Occurrence::Declared(node)),
             Role::Ringmaster(ring) => {
                 Ok((Acting::ringmaster(ring), Consequences::nothing(alloc)))
             }
@@ -247,7 +241,7 @@ impl<M: Module> Acting<M> {
     {
         let Acting { role } = self;
         match role {
-            Role::Member(member) => happen(alloc, member, at, Occurrence::Joins),
+            Role::Member(member) => happen(member, at, Occurrence::Joins),
             Role::Ringmaster(ring) => {
                 Ok((Acting::ringmaster(ring), Consequences::nothing(alloc)))
             }
@@ -288,7 +282,6 @@ impl<M: Module> Acting<M> {
 
 // Something happens to a member in a step.
 fn happen<M: Module>(
-    alloc: Global,
     member: Member<M>,
     at: u64,
     occurrence: Occurrence,
@@ -300,8 +293,8 @@ fn happen<M: Module>(
         made.1 ≡ (making.happens M.declared M.turn at member occurrence).came) }
     ensures kept { (d : Deployed) → IsMemberOf d member → IfOk result (λ made. IsActing d made.0) }
 {
-    let (member, effects, difference) = member.step(at, occurrence)?;
-    let came = Consequences::of(alloc, effects, difference)?;
+    let (member, effects, differences) = member.step(at, occurrence)?;
+    let came = Consequences::of(effects, differences);
     Ok((Acting::member(member), came))
 }
 
@@ -363,7 +356,7 @@ fn perform(
     ensures kept { OnOk result (IsRingOf deployment.now ring.new) }
 {
     let effects = answer_request(alloc, deployment, ring, sender, request)?;
-    Consequences::of(alloc, effects, None)
+    Ok(Consequences::of(effects, ListOf::new(alloc)))
 }
 
 /// What the Ringmaster of a program makes of a request that was accepted: the return to its call, which has the table

@@ -1,5 +1,5 @@
 // The values behind the header of a message.
-ghost use Rattle.std.specs.Prelude.{◌≡◌, ◌≤◌, ◌==◌, true, length, find, IfOk, IfSome, option_copied};
+ghost use Rattle.std.specs.Prelude.{◌≡◌, ◌≤◌, ◌==◌, true, length, find, is_some, IfOk, IfSome, option_copied};
 ghost use Rattle.circus_value.specs.declared.outcome.Outcome.TheVariants.{Raised};
 ghost use Rattle.circus_model.specs.Lawful.{IsState, outcome_fits};
 ghost use Rattle.circus_model.specs.declared.signature.ErrorShape.{ErrorShape as Reported};
@@ -8,7 +8,7 @@ ghost use Rattle.circus_node.specs.Seen.Can.{AreOf};
 
 use circus_external::{ExternalFault, word_at};
 use circus_model::{ErrorShape, LanguageError, ProcedureShape, Signature};
-use circus_transfer::{TransferFault, read_values, restore};
+use circus_transfer::{TransferFault, end_of_values, read_values, restore};
 use circus_value::{NoMemory, Outcome, Parts, Shapes, State, Values, values_size};
 use std::alloc::Global;
 
@@ -36,6 +36,33 @@ pub(crate) fn values_at(
         Ok((values, end)) => Ok((end == message.len()).then_some(values)),
         Err(ExternalFault::NoMemory) => Err(NoMemory {}),
         Err(_) => Ok(None),
+    }
+}
+
+/// Whether the bytes from a place on spell one value for each shape, and are no more than the most: whether `values_at` finds
+/// values. No list is made of them.
+pub(crate) fn are_values_at(
+    alloc: Global,
+    shapes: &Shapes,
+    most: usize,
+    at: usize,
+    message: &Parts,
+) -> Result<bool, NoMemory>
+    requires { at ≤ length message.now }
+    ensures found { IfOk result (λ are.
+        are ≡ is_some (bodies.values_at shapes.now most at message.now)) }
+    ensures fit { IfOk result (λ are.
+        IfSome (bodies.values_at shapes.now most at message.now) (AreOf shapes.now most)) }
+{
+    let len = message.len();
+    if len - at > most {
+        return Ok(false);
+    }
+    let bytes = message.joined()?;
+    match end_of_values(alloc, &bytes.as_slice(), at, shapes) {
+        Ok(end) => Ok(end == len),
+        Err(ExternalFault::NoMemory) => Err(NoMemory {}),
+        Err(_) => Ok(false),
     }
 }
 

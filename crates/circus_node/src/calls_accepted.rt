@@ -7,7 +7,7 @@ ghost use Rattle.circus_member_rules.specs.Happening.{IsCallTo};
 ghost use Rattle.circus_node.specs.Accepting as accepting;
 ghost use Rattle.circus_node.specs.Seen.Can.{HasArguments, MayTake};
 
-use crate::bodies::values_at;
+use crate::bodies::are_values_at;
 use crate::heads::call_in;
 use crate::program::{is_host_of, is_root};
 use circus_collate::Deployment;
@@ -35,7 +35,7 @@ fn unpacks(
         return Ok(false);
     };
     let most = limit_of(deployment.format) as usize;
-    Ok(values_at(alloc, &procedure.arguments, most, 0, body)?.is_some())
+    are_values_at(alloc, &procedure.arguments, most, 0, body)
 }
 
 // Whether an ask is in order, but for its arguments.

@@ -33,13 +33,14 @@ pub(crate) fn return_in(
     unless_refused(read_return(alloc, bytes.as_slice()))
 }
 
-/// The table that the bytes of a message from a place on are, which are joined. `None` where they are no table.
+/// The table that the bytes of a message from a place on are. `None` where they are no table.
 pub(crate) fn table_at(alloc: Global, message: &Parts, at: usize) -> Result<Option<Table>, NoMemory>
     requires { at ≤ length message.now }
     ensures read { IfOk result (λ table. table ≡ headers.table_at at message.now) }
     ensures one { IfOk result (λ table. IfSome table IsTable) }
 {
-    let bytes = message.rest(at)?.joined()?;
+    let rest = message.rest(at)?;
+    let bytes = rest.joined()?;
     unless_refused(read_table(alloc, bytes.as_slice()))
 }
 

@@ -10,6 +10,7 @@ ghost use Rattle.circus_node.specs.Step as step;
 ghost use Rattle.circus_node.specs.Trace as trace;
 ghost use Rattle.circus_node.specs.Trace.{Trace, StandsFor, effects_in, effects_at_boot};
 ghost use Rattle.circus_node.specs.Node.{IsNodeOf, GoToOthers};
+ghost use Rattle.circus_node.specs.declared.event.Event.TheVariants.{Datagram};
 ghost use Rattle.circus_node.specs.GoneOn.{MemberHasGoneOn};
 ghost use Rattle.circus_node.specs.Recorded.{IsRecorded};
 ghost use Rattle.circus_node.specs.Seen.Kept.{IsActing};
@@ -20,7 +21,6 @@ use crate::acting::{Acting, Consequences};
 use crate::home::home_of;
 use crate::station::Station;
 use crate::{Event, Gives, Outputs, StepFault, troupe_at};
-use bytes::Bytes;
 use circus_collate::{Deployment, Views};
 use circus_model::Module;
 use circus_record::MemberRecord;
@@ -130,6 +130,24 @@ impl<M: Module> NodeCore<M> {
         self.follow(at, event)
     }
 
+    /// As `step` with a datagram of another node, of which only what is kept is copied.
+    pub fn hear(self, at: u64, from: u16, datagram: &[u8]) -> Result<(Self, Outputs), StepFault>
+        requires { IsOther self.wire from }
+        ensures stepped { step.IsEnded result
+            (step.step_node M.declared M.turn at (Datagram from datagram.now) self) }
+        ensures node { (program : Deployed) (number : ℕ) → IsNodeOf program number self
+            → IfOk result (λ stepped. IsNodeOf program number stepped.0) }
+        ensures others { IfOk result (λ stepped. GoToOthers stepped.0 stepped.1.gives) }
+        ensures rest { IfOk result (λ stepped. MemberHasGoneOn stepped.0.acting) }
+        ensures trace { (d : Deployed) (hosted : Option M) (node : ℕ) (t : Trace)
+            → StandsFor M.declared M.turn M.first d hosted node t self
+            → IfOk result (λ on. StandsFor M.declared M.turn M.first d hosted node
+            (trace.stepped t at (Datagram from datagram.now)
+            (effects_in M.declared M.turn at (Datagram from datagram.now) self) on.1) on.0) }
+    {
+        self.receive(at, from, datagram)
+    }
+
     /// What the member did. `None` exactly at the Ringmaster's node. It takes no memory.
     pub fn member_record(&self) -> Option<&MemberRecord>
         ensures value { option_copied result ≡ record_of self.now.acting }
@@ -186,7 +204,7 @@ impl<M: Module> NodeCore<M> {
         ensures rest { IfOk result (λ stepped. MemberHasGoneOn stepped.0.acting) }
     {
         match event {
-            Event::Datagram(from, bytes) => self.receive(at, from, &bytes),
+            Event::Datagram(from, bytes) => self.receive(at, from, bytes.as_slice()),
             Event::Tick => self.tick(),
             Event::Down(node) => self.lose(at, node),
             Event::Join => self.join(at),
@@ -194,7 +212,7 @@ impl<M: Module> NodeCore<M> {
     }
 
     // A datagram of a node comes.
-    fn receive(self, at: u64, from: u16, bytes: &Bytes) -> Result<(Self, Outputs), StepFault>
+    fn receive(self, at: u64, from: u16, bytes: &[u8]) -> Result<(Self, Outputs), StepFault>
         requires { IsOther self.wire from }
         ensures ended { step.IsEnded result
             (step.take_datagram M.declared M.turn at from (reading bytes.now) self) }

@@ -1,5 +1,5 @@
 // What is made is sent.
-ghost use Rattle.std.specs.Prelude.{◌≡◌, ◌⊎◌, ◌++◌, OnOk};
+ghost use Rattle.std.specs.Prelude.{◌≡◌, ◌⊎◌, ◌++◌, map, OnOk};
 ghost use Rattle.std.specs.List.{flat_map};
 ghost use Rattle.circus_wire.specs.Wire.{Remains};
 ghost use Rattle.circus_node.specs.Sending as sending;
@@ -7,7 +7,7 @@ ghost use Rattle.circus_node.specs.Seen.Sent.{IsHanded};
 
 use crate::{Give, Gives, StepFault};
 use circus_member_rules::{Effect, Effects, Purpose};
-use circus_segment::{LONGEST, PART};
+use circus_segment::{Datagrams, LONGEST, PART};
 use circus_value::{Caller, Message, NoMemory};
 use circus_wire::{Batch, Batches, Wire};
 
@@ -19,6 +19,15 @@ pub fn add_gives(batch: Batch, gives: &mut Gives) -> Result<(), NoMemory>
     ensures { OnOk result (gives.new ≡ gives.old ++ sending.gives_of batch) }
 {
     let Batch { to, datagrams } = batch;
+    if datagrams.is_empty() {
+        return Ok(());
+    }
+    add_each(to, datagrams, gives)
+}
+
+fn add_each(to: u16, datagrams: Datagrams, gives: &mut Gives) -> Result<(), NoMemory>
+    ensures { OnOk result (gives.new ≡ gives.old ++ map (sending.give_to to) datagrams) }
+{
     for bytes in datagrams.into_items() {
         gives.push(Give { to, bytes })?;
     }
@@ -51,6 +60,24 @@ fn is_sendable(format: u8, message: &Message) -> bool
 /// Hands calls and returns to the pairs in their order, and adds what is sent. After a fault some of them may have been
 /// handed over.
 pub fn hand_all(
+    format: u8,
+    wire: &mut Wire<Purpose>,
+    effects: Effects,
+    gives: &mut Gives,
+) -> Result<(), StepFault>
+    requires format { (format ≡ 1) ⊎ (format ≡ 2) }
+    requires same { wire.old.format ≡ format }
+    ensures handed { IsHanded result wire.new gives.new
+        (sending.all_handed (sending.sent wire.old gives.old) effects) }
+    ensures remains { Remains wire.old wire.new }
+{
+    if effects.is_empty() {
+        return Ok(());
+    }
+    hand_each(format, wire, effects, gives)
+}
+
+fn hand_each(
     format: u8,
     wire: &mut Wire<Purpose>,
     effects: Effects,

@@ -8,7 +8,6 @@ ghost use Rattle.circus_node.specs.Seen.StationOf as stations;
 use crate::acting::Consequences;
 use crate::sending::{add_all_gives, add_gives, hand_all};
 use crate::{Gives, Outputs, StepFault};
-use bytes::Bytes;
 use circus_collate::Deployment;
 use circus_member_rules::Purpose;
 use circus_value::{Duplicate, ListOf, NoMemory};
@@ -56,7 +55,7 @@ impl Station {
     }
 
     /// A datagram of another node comes: what is sent at once, and what is heard. After `NoMemory` it may have been taken.
-    pub fn receive(&mut self, from: u16, bytes: &Bytes) -> Result<(Gives, Heard<Purpose>), NoMemory>
+    pub fn receive(&mut self, from: u16, bytes: &[u8]) -> Result<(Gives, Heard<Purpose>), NoMemory>
         requires { IsOther self.old.wire from }
         ensures { IfOk result (stations.HasReceived from (reading bytes.now) self.old self.new) }
     {

@@ -1,6 +1,5 @@
 // A pair: one end of the paired messages between two nodes.
 ghost use Rattle.std.specs.Prelude.{◌≡◌, ◌⊎◌, ℕ, ◌+◌, ◌<◌, not, ◌&&◌, is_some, true, false, IfOk, OnOk, OnErr, Ok, Err};
-ghost use Rattle.circus_segment.specs.Segment.{reading};
 ghost use Rattle.circus_segment.specs.Seen.Pieces.{piece};
 ghost use Rattle.circus_pair.specs.declared.fault.PairFault.TheVariants.{Spent};
 ghost use Rattle.circus_segment.specs.Segment.{IsSegment};
@@ -13,7 +12,6 @@ ghost use Rattle.circus_pair.specs.Ticking.{suspects_after};
 ghost use Rattle.circus_pair.specs.Standing.{StandsFor, arrival_after};
 
 use crate::fault::PairFault;
-use bytes::Bytes;
 use circus_exchange::{Exchange, NEVER_USED, Taken, Ticked};
 use circus_segment::{Datagrams, Segment};
 use circus_value::{Message, NoMemory};
@@ -142,9 +140,10 @@ impl Pair {
     }
 
     /// Takes the segment that a datagram of the other end is, and answers what is sent, what has arrived by it,
-    /// and whether it was dropped (docs/PROTOCOL.md, "Segments"). After `NoMemory` nothing has changed.
-    pub fn take(&mut self, segment: &Segment<'_>, datagram: &Bytes) -> Result<Taken, NoMemory>
-        requires { reading datagram.now ≡ Ok (piece segment.now) }
+    /// and whether it was dropped (docs/PROTOCOL.md, "Segments"). Its data is copied where it is kept. After `NoMemory`
+    /// nothing has changed.
+    pub fn take(&mut self, segment: &Segment<'_>) -> Result<Taken, NoMemory>
+        requires { IsSegment (piece segment.now) }
         ensures datagrams { IfOk result (λ taken.
             taken.datagrams ≡ datagrams_after self.old (piece segment.now)) }
         ensures arrived { IfOk result (λ taken.
@@ -153,25 +152,21 @@ impl Pair {
             taken.dropped ≡ not (takes self.old (piece segment.now))) }
         ensures state { OnOk result (self.new ≡ after self.old (piece segment.now)) }
         ensures stands { (first format : ℕ) (acts : Acts) → StandsFor self.old first format acts
-            → IsSegment (piece segment.now)
             → OnOk result (StandsFor self.new first format (more acts (Came (piece segment.now)))) }
         ensures owed { (first format : ℕ) (acts : Acts) → StandsFor self.old first format acts
-            → IsSegment (piece segment.now)
             → IfOk result (λ taken.
             taken.datagrams ≡ outputs (start first format) acts (Came (piece segment.now))) }
         ensures heard { (first format : ℕ) (acts : Acts) → StandsFor self.old first format acts
-            → IsSegment (piece segment.now)
             → IfOk result (λ taken.
             taken.arrived ≡ arrival_after (start first format) acts (piece segment.now)) }
         ensures drops { (first format : ℕ) (acts : Acts) → StandsFor self.old first format acts
-            → IsSegment (piece segment.now)
             → IfOk result (λ taken.
             taken.dropped ≡ not (takes_after (start first format) acts (piece segment.now))) }
         ensures err { OnErr result (self.new ≡ self.old) }
         ensures format { self.new.format ≡ self.old.format }
         ensures down { self.new.stopped ≡ self.old.stopped }
     {
-        self.exchange.take(self.alloc, segment, datagram)
+        self.exchange.take(self.alloc, segment)
     }
 
     /// What a tick sends again or asks for, and whether the other end is suspected now (docs/PROTOCOL.md,

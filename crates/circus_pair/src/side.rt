@@ -10,7 +10,6 @@ ghost use Rattle.circus_pair.specs.TwoEnds.{move_end, act_of_datagram, act_of_de
 use crate::pair::Pair;
 use crate::sent::Sent;
 use crate::two_ends::TwoFault;
-use bytes::Bytes;
 use circus_exchange::Arrived;
 use circus_segment::read_segment;
 use circus_value::{Message, NoMemory};
@@ -126,12 +125,12 @@ impl Side {
     {
         other.sent.share()?;
         match other.sent.shared.get(number) {
-            Some(datagram) => self.take_datagram(datagram),
+            Some(datagram) => self.take_datagram(datagram.as_slice()),
             None => Ok(Arrived::Nothing),
         }
     }
 
-    fn take_datagram(&mut self, datagram: &Bytes) -> Result<Arrived, NoMemory>
+    fn take_datagram(&mut self, datagram: &[u8]) -> Result<Arrived, NoMemory>
         ensures state { OnOk result
             (self.new ≡ move_end self.old (act_of_datagram (reading datagram.now))) }
         ensures arrived { IfOk result (λ arrived.
@@ -139,9 +138,9 @@ impl Side {
         ensures err { OnErr result (self.new ≡ self.old) }
     {
         self.sent.share()?;
-        match read_segment(datagram.as_slice()) {
+        match read_segment(datagram) {
             Ok(segment) => {
-                let taken = self.pair.take(&segment, datagram)?;
+                let taken = self.pair.take(&segment)?;
                 self.sent.fresh = taken.datagrams;
                 Ok(taken.arrived)
             }

@@ -79,7 +79,7 @@ fn follow<M: Module, K: Sink>(
         (K.written sink.old) (K.written sink.new) (K.faults sink.old) (K.faults sink.new) result }
 {
     for (place, line) in lines.iter().enumerate() {
-        running = match running.line(alloc, line, sink) {
+        running = match running.line(line, sink) {
             Ok(running) => running,
             Err(fault) => return end_of_lines(alloc, hosts, place as u64 + 1, fault, sink),
         };

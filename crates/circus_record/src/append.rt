@@ -5,7 +5,7 @@ ghost use Rattle.circus_value.specs.Shown.{shown_list};
 ghost use Rattle.circus_value.specs.ThreadText.{clock_text, path_text};
 ghost use Rattle.circus_record.specs.Line.{step_text};
 
-use circus_value::{Clock, NoMemory, Outcome, Path, Values};
+use circus_value::{Clock, NoMemory, Outcome, Path, Values, append_list};
 use itoa::{Buffer, Integer};
 
 /// Adds words and a number.
@@ -71,8 +71,7 @@ pub(crate) fn append_values(text: &mut String, words: &str, values: &Values) -> 
         ≡ string_bytes text.old ++ (words.now ++ shown_list values.now)) }
 {
     text.push_str(words)?;
-    write!(text, "{values}")?;
-    Ok(())
+    append_list(text, values)
 }
 
 /// Adds words and an outcome.

@@ -1,14 +1,17 @@
 //! The text of a replay: what was sent, the Ringmaster's views, and what the members did.
 //!
-//! `views` has the lines of the Ringmaster and its views, and `text` the others.
+//! `sent` has the lines of what was sent, which `fill` writes piece by piece, `views` those of the Ringmaster and its views,
+//! and `text` the others.
 //!
 //! A replay that writes its report as it goes.
 //!
 //! `put` offers texts to a sink line by line, and `running` has the replay.
 #![tactic(auto)]
 
+mod fill;
 mod put;
 mod running;
+mod sent;
 mod text;
 mod views;
 

@@ -14,6 +14,7 @@ pub enum PutFault {
 }
 
 /// Offers a line to the sink, and its rest again until all is taken.
+#[inline(always)]
 pub fn put_line<K: Sink>(sink: &mut K, line: &[u8]) -> Result<(), PutFault>
     ensures written { OnOk result (Writes (K.written sink.old) (K.written sink.new) line.now) }
     ensures part { OnErr result (WritesPart (K.written sink.old) (K.written sink.new) line.now) }

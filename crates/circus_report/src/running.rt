@@ -8,7 +8,8 @@ ghost use Rattle.circus_report.specs.Report.{rest_text, ring_text, member_at, me
 ghost use Rattle.circus_report.specs.Run as run;
 
 use crate::put::{PutFault, put_line, put_lines};
-use crate::text::{REPORT, append_member, append_ring, append_sent};
+use crate::sent::write_sent;
+use crate::text::{REPORT, append_member, append_ring};
 use circus_collate::Host;
 use circus_model::Module;
 use circus_outside::Sink;
@@ -69,6 +70,8 @@ impl From<PutFault> for RunFault {
 #[derive(Drop)]
 pub struct Running<M: Module> {
     world: World<M>,
+    // Where the line of a datagram is written before it is put. It stays from step to step.
+    room: Vec<u8>,
 }
 
 impl<M: Module> Model for Running<M> {
@@ -95,9 +98,10 @@ impl<M: Module> Running<M> {
             → Rose (K.faults sink.old) (K.faults sink.new) }
         ensures count { OnOk result (K.faults sink.new ≡ K.faults sink.old) }
     {
+        let mut room = Vec::new(alloc);
         put_line(sink, REPORT.as_bytes())?;
-        put_sent(alloc, &world, 0, sink)?;
-        Ok(Running { world })
+        put_sent(&mut room, &world, 0, sink)?;
+        Ok(Running { world, room })
     }
 
     /// Steps a line, and puts exactly the lines of what was sent in it, before it returns. Its conditions are those of
@@ -105,7 +109,7 @@ impl<M: Module> Running<M> {
     ///
     /// `Illegal` and `Spent` as `World::step` answers them, where nothing was put; `SinkFailed` only where the sink's count of
     /// faults rose, and `NoMemory`.
-    pub fn line<K: Sink>(self, alloc: Global, line: &Line, sink: &mut K) -> Result<Self, RunFault>
+    pub fn line<K: Sink>(self, line: &Line, sink: &mut K) -> Result<Self, RunFault>
         requires named { NamesBelow (length self.nodes) line.now }
         requires few { self.steps < 18446744073709551615 }
         ensures run { run.IsRun M.declared M.turn line.now self (K.written sink.old)
@@ -121,8 +125,9 @@ impl<M: Module> Running<M> {
             Err(WorldFault::NoMemory) => return Err(RunFault::NoMemory),
             Err(WorldFault::Spent(node, peer)) => return Err(RunFault::Spent(node, peer)),
         };
-        put_sent(alloc, &world, before, sink)?;
-        Ok(Running { world })
+        let mut room = self.room;
+        put_sent(&mut room, &world, before, sink)?;
+        Ok(Running { world, room })
     }
 
     /// Puts the lines behind those of what was sent, by the names of the modules in module order.
@@ -157,9 +162,9 @@ impl<M: Module> Running<M> {
     }
 }
 
-// Puts the lines of what was sent, from this number on.
+// Puts the lines of what was sent, from this number on, each of which is written in the room.
 fn put_sent<M: Module, K: Sink>(
-    alloc: Global,
+    room: &mut Vec<u8>,
     world: &World<M>,
     from: usize,
     sink: &mut K,
@@ -173,11 +178,9 @@ fn put_sent<M: Module, K: Sink>(
 {
     let nodes = world.deployment().nodes.as_slice();
     let sent = world.sent();
-    let mut line = Vec::new(alloc);
     for number in from..sent.len() {
-        line.clear();
-        append_sent(&mut line, nodes, number as u64, &sent.at(number))?;
-        put_line(sink, line.as_slice())?;
+        let start = write_sent(room, nodes, number as u64, &sent.at(number))?;
+        put_line(sink, &room.as_slice()[start..])?;
     }
     Ok(())
 }

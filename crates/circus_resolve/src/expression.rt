@@ -23,7 +23,7 @@ use circus_expression::{
     Expression, ExpressionKind, Expressions, Operand, Operator, PlaceText, Suffix, Suffixes,
 };
 use circus_syntax::{Named, TypeName};
-use circus_value::{Duplicate, NoMemory, Shape};
+use circus_value::{Duplicate, NoMemory, Shape, Text};
 use std::alloc::Global;
 
 /// An expression that is resolved: what it means, and what it gives where that is known.
@@ -68,7 +68,7 @@ pub fn resolve<'s>(
             sort: Some(Sort::Number),
         }),
         ExpressionKind::Text(bytes) => Ok(Resolved {
-            tree: CheckedExpression::Text(bytes.copy()?),
+            tree: CheckedExpression::Text(Text::of(alloc, bytes.copy()?)?),
             sort: Some(Sort::Text),
         }),
         ExpressionKind::Truth(truth) => Ok(Resolved {

@@ -1,5 +1,5 @@
 // A line as it is written.
-ghost use Rattle.std.specs.Prelude.{◌≡◌, ◌≢◌, ◌<◌, ◌^◌, ◌∷◌, ◌++◌, ◌↔◌, ℕ, List, IfNone, IfSome, IsTrue, MatchOption};
+ghost use Rattle.std.specs.Prelude.{◌≡◌, ◌≢◌, ◌<◌, ◌^◌, ◌∷◌, ◌++◌, ◌↔◌, ℕ, List, codes, IfNone, IfSome, IsTrue, MatchOption};
 ghost use Rattle.std.specs.Char.{is_ascii_alphanumeric};
 ghost use Rattle.std.specs.Fmt.{decimal};
 ghost use Rattle.std.specs.List.{list_all};
@@ -22,8 +22,6 @@ pub enum Written<'a> {
     Join(&'a [u8]),
 }
 
-const DELIVER: &[u8] = b"deliver ";
-
 const TICK: &[u8] = b"tick ";
 
 const CRASH: &[u8] = b"crash ";
@@ -39,7 +37,7 @@ pub fn written_line(text: &[u8]) -> Option<Written<'_>>
     ensures some { IfSome result (λ line. Spells text.now (written_as line)) }
     ensures none { IfNone result (SpellsNothing text.now) }
 {
-    if let Some(number) = number_behind(DELIVER, text) {
+    if let Some(number) = delivered(text) {
         return Some(Written::Deliver(number));
     }
     if let Some(node) = name_behind(TICK, text) {
@@ -63,12 +61,18 @@ fn text_behind<'a>(beginning: &[u8], text: &'a [u8]) -> Option<&'a [u8]>
     text.strip_prefix(beginning)
 }
 
-fn number_behind(beginning: &[u8], text: &[u8]) -> Option<u64>
-    ensures some { IfSome result (λ number. text.now ≡ beginning.now ++ decimal number) }
+// The number of the datagram that the text delivers.
+fn delivered(text: &[u8]) -> Option<u64>
+    ensures some { IfSome result (λ number. text.now ≡ codes "deliver " ++ decimal number) }
     ensures none { IfNone result
-        ((number : ℕ) → number < 2 ^ 64 → text.now ≢ beginning.now ++ decimal number) }
+        ((number : ℕ) → number < 2 ^ 64 → text.now ≢ codes "deliver " ++ decimal number) }
 {
-    decimal_at_most(text_behind(beginning, text)?, u64::MAX)
+    match text {
+        [b'd', b'e', b'l', b'i', b'v', b'e', b'r', b' ', digits @ ..] => {
+            decimal_at_most(digits, u64::MAX)
+        }
+        _ => None,
+    }
 }
 
 fn name_behind<'a>(beginning: &[u8], text: &'a [u8]) -> Option<&'a [u8]>

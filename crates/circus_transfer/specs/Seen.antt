@@ -1,2 +1,3 @@
--- How code is seen: what restoring answers, by what reading comes to.
+-- How code is seen: what restoring answers, and where reading ends, by what reading comes to.
+pub mod Ending
 pub mod Restored

@@ -17,4 +17,4 @@ pub use joiner::Joiner;
 pub use laws::snapshots_are_restored;
 pub use restoring::restore;
 pub use snapshots::snapshot;
-pub use values::read_values;
+pub use values::{end_of_values, read_values};

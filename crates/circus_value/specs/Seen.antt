@@ -2,6 +2,7 @@
 pub mod ValueCode
 pub mod ValueWeight
 pub mod SharedItems
+pub mod SharedBytes
 pub mod NamePlaces
 pub mod ShapeWords
 pub mod ValueFalls

@@ -7,7 +7,7 @@ ghost use Rattle.circus_value.specs.ValueEquality.{value_eq, items_eq, values_eq
 ghost use Rattle.circus_value.specs.OutcomeEquality.{outcome_eq};
 ghost use Rattle.circus_value.specs.declared.outcome.Outcome.{Outcome as Ended};
 
-use crate::{Chosen, ListOf, Outcome, Value, Values};
+use crate::{Chosen, ListOf, Outcome, Text, Value, Values};
 
 impl<T: PartialEq> PartialEq for ListOf<T> {
     ghost use Rattle.std.specs.Cmp.Lexicographic.{pointwise, lists_per};
@@ -25,6 +25,26 @@ impl<T: Eq> Eq for ListOf<T> {
     ghost use Rattle.std.specs.Cmp.Lexicographic.{lists_equiv};
 
     ghost laws = { lists_equiv T.Eq.laws };
+}
+
+impl PartialEq for Text {
+    ghost use Rattle.std.specs.Prelude.{nat_eq};
+    ghost use Rattle.std.specs.Cmp.{nat_eq_equiv, partial_equiv_from_equiv};
+    ghost use Rattle.std.specs.Cmp.Lexicographic.{pointwise, lists_per};
+
+    ghost eq = { pointwise nat_eq };
+
+    ghost laws = { lists_per (partial_equiv_from_equiv nat_eq_equiv) };
+
+    fn eq(&self, other: &Self) -> bool {
+        self.as_slice() == other.as_slice()
+    }
+}
+
+impl Eq for Text {
+    ghost use Rattle.std.specs.Cmp.Lexicographic.{nat_list_eq_equiv};
+
+    ghost laws = { nat_list_eq_equiv };
 }
 
 #[cycle(equality)]

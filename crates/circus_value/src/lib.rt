@@ -1,7 +1,7 @@
 //! The values of Circus, the shapes that they fit, and the lists that all crates share.
 //!
-//! `list_of` has the one list type, `value` and `shape` the two trees, `outcome` what a procedure ends with, `caller`
-//! who made a call. `among` looks for a number in a list and `name_index` for a name, `words` spells the lists of a
+//! `list_of` has the one list type, `value` and `shape` the two trees, `text` the bytes of a text, `outcome` what a
+//! procedure ends with, `caller` who made a call. `among` looks for a number in a list and `name_index` for a name, `words` spells the lists of a
 //! shape so that two are compared at once, `duplicate` has the copies of plain data and `equality` what is equal.
 //! `fitting` tests a value against a shape, `size` counts a value's bytes in external form, `parts` has bytes that are
 //! shared in parts, `tail` those behind the first part, and `shown` and `thread_text` the texts of values, outcomes,
@@ -21,6 +21,7 @@ mod shape;
 mod shown;
 mod size;
 mod tail;
+mod text;
 mod thread_text;
 mod value;
 mod words;
@@ -34,8 +35,9 @@ pub use list_of::ListOf;
 pub use outcome::Outcome;
 pub use parts::Parts;
 pub use shape::{Arm, Arms, Element, Field, Fields, Label, Labels, Shape};
-pub use shown::show;
+pub use shown::{append_list, show};
 pub use size::{external_size, values_size};
+pub use text::Text;
 pub use thread_text::{ClockText, PathText, name_text};
 pub use value::{Chosen, Value, Values, ValuesBuilder};
 

@@ -2,12 +2,14 @@
 ghost use Rattle.std.specs.Prelude.{◌≡◌, ◌+◌, ◌<◌, ◌≤◌, [], ◌++◌, length, drop, slice_get, OnOk, OnErr, IsOk, IfOk, IsTrue, ◌↔◌};
 ghost use Rattle.std.specs.Prelude.{nat_eq};
 ghost use Rattle.std.specs.Cmp.Lexicographic.{pointwise};
+ghost use Rattle.std.specs.Cow.{cow_slice_items};
 ghost use Rattle.circus_value.specs.Parts.{most_bytes, AreOctets};
 
 use crate::tail::Tail;
-use crate::{Duplicate, ListOf, Message, NoMemory};
+use crate::{Duplicate, NoMemory};
 use bytes::Bytes;
 use std::alloc::Global;
+use std::borrow::CowSlice;
 use std::marker::Model;
 
 /// Bytes that stand in parts, which may be shared. Clauses see the joined bytes. Those of one part take no memory.
@@ -84,14 +86,18 @@ impl Parts {
         self.tail.add(part)
     }
 
-    /// A copy of the bytes in one piece.
-    pub fn joined(&self) -> Result<Message, NoMemory>
-        ensures { IfOk result (λ bytes. bytes ≡ self.now) }
+    /// The bytes in one piece. Those of one part are lent where they stand, which takes no memory; those of several parts
+    /// are copied.
+    pub fn joined(&self) -> Result<CowSlice<'_, u8>, NoMemory>
+        ensures { IfOk result (λ bytes. cow_slice_items bytes ≡ self.now) }
     {
+        if self.tail.is_empty() {
+            return Ok(CowSlice::Borrowed(self.first.as_slice()));
+        }
         let mut bytes = Vec::with_capacity(self.tail.allocator(), self.len())?;
         bytes.extend_from_slice(self.first.as_slice())?;
         self.tail.copy_to(&mut bytes)?;
-        Ok(ListOf::of(bytes))
+        Ok(CowSlice::Owned(bytes))
     }
 
     /// The bytes from a place on, in parts that are shared with these and not copied.

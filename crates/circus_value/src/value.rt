@@ -2,10 +2,10 @@
 ghost use Rattle.std.specs.Prelude.{◌≡◌, ◌-◌, ◌^◌, min, List, [], ◌∷◌, ◌++◌, ◌<◌, length, map, option_map, option_copied, Some, slice_get, slice_set, take, OnOk, OnErr, IfOk, IsOk, IsTrue, ◌↔◌};
 ghost use Rattle.circus_value.specs.ValueOf.{tree_of};
 ghost use Rattle.circus_value.specs.ExternalSize.{size_of_values};
-ghost use Rattle.circus_value.specs.Seen.SharedItems.{items_in, IsRecounted};
+ghost use Rattle.circus_value.specs.Seen.SharedItems.{items_in, size_in, IsSized, IsCounted, IsRecounted};
 
 use crate::size::size_of_all;
-use crate::{Duplicate, ListOf, NoMemory, external_size};
+use crate::{Duplicate, NoMemory, Text, external_size};
 use std::alloc::Global;
 use std::marker::Model;
 use std::mem;
@@ -20,7 +20,7 @@ pub enum Value {
     LongCardinal(u32),
     Integer(i16),
     LongInteger(i32),
-    Text(ListOf<u8>),
+    Text(Text),
     Enumeration(u16),
     Array(Values),
     Sequence(Values),
@@ -28,26 +28,40 @@ pub enum Value {
     Choice(u16, Chosen),
 }
 
+// What a value takes in a list (docs/DECISIONS.md, "Nested values are shared").
+const _: () = prove!(size_of::<Value>() == 24);
+
 /// Values in order. Copies share them until one of the copies is changed. Clauses see the plain list of their trees.
 #[cycle(value)]
 #[derive(Debug)]
 pub struct Values {
     alloc: Global,
     /// `None` where there are none and no memory was taken yet.
-    items: Option<Rc<Vec<Value>>>,
-    /// The bytes of their external forms, or 18,446,744,073,709,551,615 where there are more.
-    size: u64,
+    items: Option<Rc<Items>>,
 }
 
 // Written out, so that dropping one is one step of a proof (docs/PROOFS.md, "Cost").
 impl Drop for Values {
     #[cycle(value_drop)]
     fn drop(self) {
-        let Values {
-            alloc: _,
-            items: _,
-            size: _,
-        } = self;
+        let Values { alloc: _, items: _ } = self;
+    }
+}
+
+// What the copies of a list share.
+#[cycle(value)]
+#[derive(Debug)]
+struct Items {
+    values: Vec<Value>,
+    /// The bytes of their external forms, or 18,446,744,073,709,551,615 where there are more.
+    size: u64,
+}
+
+// Written out, so that dropping one is one step of a proof (docs/PROOFS.md, "Cost").
+impl Drop for Items {
+    #[cycle(value_drop)]
+    fn drop(self) {
+        let Items { values: _, size: _ } = self;
     }
 }
 
@@ -69,13 +83,13 @@ impl Model for Values {
 
     ghost use Rattle.circus_value.specs.Seen.SharedItems.{IsCounted};
 
-    ghost invariant = { λ a. IsCounted a.items a.size };
+    ghost invariant = { λ a. IsCounted a.items };
 
     ghost size = { λ ts. weights (value_trees ts) };
 
     ghost use Rattle.circus_value.specs.Seen.ValueFalls.{items_fall};
 
-    ghost size_decreases = { λ a h. items_fall a.alloc a.items a.size };
+    ghost size_decreases = { λ a h. items_fall a.alloc a.items };
 }
 
 /// The value of the chosen arm. Copies share it until one of the copies is changed. Clauses see its tree.
@@ -119,11 +133,12 @@ impl Values {
     pub fn new(alloc: Global) -> Self
         ensures { result ≡ [] }
     {
-        Values {
-            alloc,
-            items: None,
-            size: 0,
-        }
+        Values { alloc, items: None }
+    }
+
+    // What it grows with.
+    pub(crate) fn alloc(&self) -> Global {
+        self.alloc
     }
 
     /// How many there are.
@@ -158,7 +173,7 @@ impl Values {
     pub(crate) fn size(&self) -> u64
         ensures { result ≡ min (size_of_values self.now) (2 ^ 64 - 1) }
     {
-        self.size
+        size_of_items(&self.items)
     }
 
     /// Adds a value at the end. After `NoMemory` the list is unchanged.
@@ -166,20 +181,16 @@ impl Values {
         ensures ok { OnOk result (self.new ≡ self.old ++ tree_of item ∷ []) }
         ensures err { OnErr result (self.new ≡ self.old) }
     {
-        let size = self.size.saturating_add(external_size(&item));
-        append(self.alloc, &mut self.items, item)?;
-        self.size = size;
-        Ok(())
+        append(self.alloc, &mut self.items, item)
     }
 
-    /// Keeps the first values, at most so many, and drops those behind them. After `NoMemory` the list is unchanged.
+    /// Keeps the first values, at most so many, and drops those behind them and the room for them. After `NoMemory` the
+    /// list is unchanged.
     pub fn truncate(&mut self, len: usize) -> Result<(), NoMemory>
         ensures ok { OnOk result (self.new ≡ take len self.old) }
         ensures err { OnErr result (self.new ≡ self.old) }
     {
-        keep_first(&mut self.items, len)?;
-        self.size = size_of_all(items_of(&self.items));
-        Ok(())
+        keep_first(&mut self.items, len)
     }
 
     /// Puts a value in the place of another, which it answers. After `NoMemory` the list is unchanged.
@@ -189,10 +200,7 @@ impl Values {
         ensures old { IfOk result (λ value. slice_get self.old place ≡ Some (tree_of value)) }
         ensures err { OnErr result (self.new ≡ self.old) }
     {
-        let grows = external_size(&item);
-        let old = exchange(&mut self.items, place, item)?;
-        self.size = size_after(&self.items, self.size, external_size(&old), grows);
-        Ok(old)
+        exchange(&mut self.items, place, item)
     }
 }
 
@@ -247,44 +255,57 @@ impl ValuesBuilder {
             return Ok(Values::new(alloc));
         }
         let size = size_of_all(&items);
+        let items = Items {
+            values: items,
+            size,
+        };
         Ok(Values {
             alloc,
             items: Some(Rc::new(alloc, items)?),
-            size,
         })
     }
 }
 
 // The items.
-fn items_of(items: &Option<Rc<Vec<Value>>>) -> &[Value]
+fn items_of(items: &Option<Rc<Items>>) -> &[Value]
     ensures { result.now ≡ items_in items.now }
 {
     match items {
-        Some(items) => items.as_slice(),
+        Some(items) => items.values.as_slice(),
         None => &[],
     }
 }
 
+// The size that is kept beside the items.
+fn size_of_items(items: &Option<Rc<Items>>) -> u64
+    ensures { result ≡ size_in items.now }
+{
+    match items {
+        Some(items) => items.size,
+        None => 0,
+    }
+}
+
 // Adds an item at the end. After `NoMemory` the items are unchanged.
-fn append(alloc: Global, items: &mut Option<Rc<Vec<Value>>>, item: Value) -> Result<(), NoMemory>
+fn append(alloc: Global, items: &mut Option<Rc<Items>>, item: Value) -> Result<(), NoMemory>
+    requires { IsCounted items.old }
     ensures ok { OnOk result (items_in items.new ≡ items_in items.old ++ item ∷ []) }
     ensures err { OnErr result (items_in items.new ≡ items_in items.old) }
+    ensures counted { IsCounted items.new }
 {
     match items {
         Some(items) => Rc::make_mut(items)?.push(item)?,
-        None => {
-            let mut first = Vec::with_capacity(alloc, 1)?;
-            first.push(item)?;
-            *items = Some(Rc::new(alloc, first)?);
-        }
+        None => *items = Some(Rc::new(alloc, Items::of(alloc, item)?)?),
     }
     Ok(())
 }
 
 // Keeps the first items. After `NoMemory` the items are unchanged.
-fn keep_first(items: &mut Option<Rc<Vec<Value>>>, len: usize) -> Result<(), NoMemory>
+fn keep_first(items: &mut Option<Rc<Items>>, len: usize) -> Result<(), NoMemory>
+    requires { IsCounted items.old }
     ensures ok { OnOk result (items_in items.new ≡ take len (items_in items.old)) }
     ensures err { OnErr result (items_in items.new ≡ items_in items.old) }
+    ensures counted { IsCounted items.new }
 {
     if let Some(items) = items {
         Rc::make_mut(items)?.truncate(len);
@@ -293,27 +314,74 @@ fn keep_first(items: &mut Option<Rc<Vec<Value>>>, len: usize) -> Result<(), NoMe
 }
 
 // Puts an item in the place of another, which it answers. After `NoMemory` the items are unchanged.
-fn exchange(
-    items: &mut Option<Rc<Vec<Value>>>,
-    place: usize,
-    item: Value,
-) -> Result<Value, NoMemory>
-    requires { place < length (items_in items.old) }
+fn exchange(items: &mut Option<Rc<Items>>, place: usize, item: Value) -> Result<Value, NoMemory>
+    requires place { place < length (items_in items.old) }
+    requires counted { IsCounted items.old }
     ensures new { OnOk result (items_in items.new ≡ slice_set (items_in items.old) place item) }
     ensures old { IfOk result (λ old. slice_get (items_in items.old) place ≡ Some old) }
     ensures err { OnErr result (items_in items.new ≡ items_in items.old) }
+    ensures counted { IsCounted items.new }
 {
     let Some(items) = items else { unreachable!() };
-    let items = Rc::make_mut(items)?;
-    Ok(mem::replace(&mut items[place], item))
+    Ok(Rc::make_mut(items)?.replace(place, item))
+}
+
+impl Items {
+    // One value.
+    fn of(alloc: Global, item: Value) -> Result<Self, NoMemory>
+        ensures values { IfOk result (λ items. items.values.items ≡ item ∷ []) }
+        ensures size { IfOk result IsSized }
+    {
+        let size = external_size(&item);
+        let mut values = Vec::with_capacity(alloc, 1)?;
+        values.push(item)?;
+        Ok(Items { values, size })
+    }
+
+    // Adds a value at the end. After `NoMemory` nothing has changed.
+    fn push(&mut self, item: Value) -> Result<(), NoMemory>
+        requires { IsSized self.old }
+        ensures ok { OnOk result (self.new.values.items ≡ self.old.values.items ++ item ∷ []) }
+        ensures err { OnErr result (self.new.values.items ≡ self.old.values.items) }
+        ensures size { IsSized self.new }
+    {
+        let grows = external_size(&item);
+        self.values.push(item)?;
+        self.size = self.size.saturating_add(grows);
+        Ok(())
+    }
+
+    // Keeps the first values.
+    fn truncate(&mut self, len: usize)
+        ensures values { self.new.values.items ≡ take len self.old.values.items }
+        ensures size { IsSized self.new }
+    {
+        self.values.truncate(len);
+        self.values.shrink_to_fit();
+        self.size = size_of_all(&self.values);
+    }
+
+    // Puts a value in the place of another, which it answers.
+    fn replace(&mut self, place: usize, item: Value) -> Value
+        requires place { place < length self.old.values.items }
+        requires sized { IsSized self.old }
+        ensures new { self.new.values.items ≡ slice_set self.old.values.items place item }
+        ensures old { slice_get self.old.values.items place ≡ Some result }
+        ensures size { IsSized self.new }
+    {
+        let grows = external_size(&item);
+        let old = mem::replace(&mut self.values[place], item);
+        self.size = size_after(&self.values, self.size, external_size(&old), grows);
+        old
+    }
 }
 
 // The size of items of which one was put in the place of another: before that all together had this size.
-fn size_after(items: &Option<Rc<Vec<Value>>>, before: u64, shrinks: u64, grows: u64) -> u64
+fn size_after(items: &[Value], before: u64, shrinks: u64, grows: u64) -> u64
     ensures { IsRecounted items.now before shrinks grows result }
 {
     if before == u64::MAX {
-        size_of_all(items_of(items))
+        size_of_all(items)
     } else {
         before.saturating_sub(shrinks).saturating_add(grows)
     }
@@ -346,7 +414,7 @@ impl Chosen {
     }
 }
 
-/// The items of a list, the value of a chosen arm, are shared.
+/// The bytes of a text, the items of a list, the value of a chosen arm, are shared.
 impl Duplicate for Value {
     fn copy(&self) -> Result<Self, NoMemory> {
         Ok(match self {
@@ -371,7 +439,6 @@ impl Duplicate for Values {
         Ok(Values {
             alloc: self.alloc,
             items: self.items.clone()?,
-            size: self.size,
         })
     }
 }
@@ -391,5 +458,18 @@ impl Clone for Value {
 
     fn clone(&self) -> Result<Self, NoMemory> {
         self.copy()
+    }
+}
+
+// What a change takes of items that are shared.
+impl Clone for Items {
+    ghost is_clone = { λ items copy.
+        (copy.values.items ≡ items.values.items) × (copy.size ≡ items.size) };
+
+    fn clone(&self) -> Result<Self, NoMemory> {
+        Ok(Items {
+            values: self.values.clone()?,
+            size: self.size,
+        })
     }
 }

@@ -9,7 +9,7 @@ use crate::Unread;
 use crate::piece::{
     behind_mark, pass, read_integer, read_long, read_long_integer, read_text, read_truth, read_word,
 };
-use circus_value::{Arms, Chosen, Fields, Label, Shape, Value, Values, has_label};
+use circus_value::{Arms, Chosen, Fields, Label, Shape, Text, Value, Values, has_label};
 use std::alloc::Global;
 
 const COMMA: &[u8] = b", ";
@@ -65,7 +65,7 @@ pub fn read_value(
         }
         Shape::Text => {
             let (octets, next) = read_text(alloc, text, at)?;
-            Ok((Value::Text(octets), next))
+            Ok((Value::Text(Text::of(alloc, octets)?), next))
         }
         Shape::Enumeration(labels) => read_label(text, at, labels.as_slice()),
         Shape::Array(len, element) => {

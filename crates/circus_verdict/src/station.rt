@@ -109,7 +109,7 @@ impl Pairs {
         ensures format { self.new.format ≡ self.old.format }
         ensures remains { Remains self.old.wire self.new.wire }
     {
-        let delivery = self.wire.deliver(from, bytes)?;
+        let delivery = self.wire.deliver(from, bytes.as_slice())?;
         let mut gives = Gives::new(self.alloc);
         add_gives(delivery.sent, &mut gives)?;
         Ok(Came {

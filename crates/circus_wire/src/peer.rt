@@ -1,7 +1,7 @@
 // The pair with one other node, and what its calls were made for.
 ghost use Rattle.std.specs.Prelude.{◌≡◌, ◌⊎◌, ◌<◌, ◌++◌, [], ◌∷◌, true, false, if◌then◌else◌, IfOk, OnOk, OnErr, Ok, Err};
 ghost use Rattle.std.specs.FinMap as map;
-ghost use Rattle.circus_segment.specs.Segment.{reading};
+ghost use Rattle.circus_segment.specs.Segment.{IsSegment};
 ghost use Rattle.circus_segment.specs.Seen.Pieces.{piece};
 ghost use Rattle.circus_pair.specs.declared.fault.PairFault.TheVariants.{Spent};
 ghost use Rattle.circus_exchange.specs.Limits.{never_used};
@@ -9,7 +9,6 @@ ghost use Rattle.circus_exchange.specs.Exchange.{IsSendable, awaits_return, data
 ghost use Rattle.circus_wire.specs.Wire.{fresh_peer, peer_called, peer_answered, peer_heard, peer_ticked, peer_stopped, batches, suspicion, heard_by, hear_arrival, drop_purpose};
 
 use crate::delivery::{Batch, Batches, Delivery, Heard};
-use bytes::Bytes;
 use circus_exchange::{ByCall, NEVER_USED};
 use circus_pair::{Arrived, Datagrams, Pair, PairFault, Segment, Taken, Ticked};
 use circus_value::{Caller, Message, NoMemory, Nodes};
@@ -109,13 +108,8 @@ impl<P: Drop> Peer<P> {
     }
 
     /// Takes the segment that a datagram of the other node is. After `NoMemory` nothing has changed.
-    pub fn take(
-        &mut self,
-        node: u16,
-        segment: &Segment<'_>,
-        datagram: &Bytes,
-    ) -> Result<Delivery<P>, NoMemory>
-        requires { reading datagram.now ≡ Ok (piece segment.now) }
+    pub fn take(&mut self, node: u16, segment: &Segment<'_>) -> Result<Delivery<P>, NoMemory>
+        requires { IsSegment (piece segment.now) }
         ensures sent { IfOk result (λ delivery.
             delivery.sent ≡ record
             { to = node; datagrams = datagrams_after self.old.exchange (piece segment.now) }) }
@@ -128,7 +122,7 @@ impl<P: Drop> Peer<P> {
             datagrams,
             arrived,
             dropped,
-        } = self.pair.take(segment, datagram)?;
+        } = self.pair.take(segment)?;
         let sent = Batch {
             to: node,
             datagrams,

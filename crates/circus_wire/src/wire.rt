@@ -1,7 +1,7 @@
 // The pairs of a node with all other ones.
 ghost use Rattle.std.specs.Prelude.{◌≡◌, ◌≢◌, ◌⊎◌, ℕ, ◌<◌, ◌≤◌, [], ◌++◌, length, true, IfOk, OnOk, OnErr, Ok, Err, slice_get, option_copied};
 ghost use Rattle.circus_limits.specs.Limits.{most_nodes};
-ghost use Rattle.circus_segment.specs.Segment.{Piece, reading};
+ghost use Rattle.circus_segment.specs.Segment.{Piece, IsSegment, reading};
 ghost use Rattle.circus_segment.specs.Seen.Pieces.{piece};
 ghost use Rattle.circus_pair.specs.declared.fault.PairFault.TheVariants.{Spent as NoNumber};
 ghost use Rattle.circus_exchange.specs.Limits.{never_used};
@@ -15,7 +15,6 @@ ghost use Rattle.circus_wire.specs.WireStanding.{WireStands, owed_to, heard_afte
 use crate::delivery::{Batch, Batches, Delivery, Heard};
 use crate::fault::WireFault;
 use crate::peer::Peer;
-use bytes::Bytes;
 use circus_pair::{Datagrams, PairFault, Segment, read_segment};
 use circus_value::{Caller, ListOf, Message, NoMemory, Nodes};
 use std::alloc::Global;
@@ -231,8 +230,8 @@ impl<P: Drop> Wire<P> {
 
     /// Takes a datagram of another node, also of one that was declared down, and answers what is sent and what came of
     /// it (docs/PROTOCOL.md, "Segments"). The purpose of a call whose return arrives is handed out, and is kept no
-    /// longer. After `NoMemory` nothing has changed.
-    pub fn deliver(&mut self, from: u16, datagram: &Bytes) -> Result<Delivery<P>, NoMemory>
+    /// longer. The data of the datagram is copied where it is kept. After `NoMemory` nothing has changed.
+    pub fn deliver(&mut self, from: u16, datagram: &[u8]) -> Result<Delivery<P>, NoMemory>
         requires { model.IsOther self.old from }
         ensures stands { (b : Beginning) (acts : WireActs P) (s : Piece)
             → WireStands self.old b acts → reading datagram.now ≡ Ok s
@@ -254,8 +253,8 @@ impl<P: Drop> Wire<P> {
         ensures err { OnErr result (self.new ≡ self.old) }
         ensures remains { model.Remains self.old self.new }
     {
-        match read_segment(datagram.as_slice()) {
-            Ok(segment) => self.hear(from, &segment, datagram),
+        match read_segment(datagram) {
+            Ok(segment) => self.hear(from, &segment),
             Err(_) => Ok(Delivery {
                 sent: Batch {
                     to: from,
@@ -266,14 +265,9 @@ impl<P: Drop> Wire<P> {
         }
     }
 
-    fn hear(
-        &mut self,
-        from: u16,
-        segment: &Segment<'_>,
-        datagram: &Bytes,
-    ) -> Result<Delivery<P>, NoMemory>
+    fn hear(&mut self, from: u16, segment: &Segment<'_>) -> Result<Delivery<P>, NoMemory>
         requires other { model.IsOther self.old from }
-        requires read { reading datagram.now ≡ Ok (piece segment.now) }
+        requires segment { IsSegment (piece segment.now) }
         ensures sent { IfOk result (λ delivery.
             delivery.sent ≡ model.sent_by_datagram self.old from (Ok (piece segment.now))) }
         ensures told { IfOk result (λ delivery.
@@ -284,7 +278,7 @@ impl<P: Drop> Wire<P> {
         ensures remains { model.Remains self.old self.new }
     {
         let place = place_of(self.own, from);
-        self.peers[place].take(from, segment, datagram)
+        self.peers[place].take(from, segment)
     }
 
     /// Lets a tick come to each pair with a node that was not declared down, in node order, and answers what is sent

@@ -30,6 +30,10 @@ pub live_then : (live : Bool) (node : ℕ) → (if live then None else Some (Not
 live_then true node legal = refl
 live_then false node legal = absurd (let clash : ◌≡◌ {A = Option LineCause} (Some (NotLive node)) None = legal in cc)
 
+-- a datagram that stands at a place
+pub same_sent : (own sent : Sent) → ◌≡◌ {A = Option Sent} (Some own) (Some sent) → own ≡ sent
+same_sent own sent is = cc
+
 module _ {M : Type 0} where
   is_other : (w : WorldState M) (node other : ℕ) (s : Standing M) → IsSound w → slice_get w.nodes node ≡ Some s
       → other < length w.nodes → other ≢ node → IsOther s.node.wire other

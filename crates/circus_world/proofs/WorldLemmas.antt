@@ -8,10 +8,12 @@ use Rattle.circus_collate.specs.declared.deployment.Deployment.{Deployment}
 use Rattle.circus_model.specs.NextTurn.{NextTurn}
 use Rattle.circus_model.specs.declared.signature.Signature.{Signature}
 use Rattle.circus_node.specs.declared.event.Event.{Event}
+use Rattle.circus_node.specs.declared.event.Give.{Give}
 use Rattle.circus_node.specs.NodeState.{NodeState}
 use Rattle.circus_node.specs.Step as node_step
 use Rattle.circus_world.specs.Sent.{Sent}
 use Rattle.circus_world.specs.declared.slot.Slot.{Slot}
+use Rattle.circus_world.specs.declared.world.Inside.{Inside}
 use Rattle.circus_world.specs.declared.world.Loss.{Loss}
 use Rattle.circus_world.specs.declared.world.Loss.TheVariants as loss
 use Rattle.circus_world.specs.WorldState.{WorldState, Standing}
@@ -21,6 +23,10 @@ use Rattle.circus_world.specs.Seen.Followed.{IsFollowed}
 use Rattle.circus_world.specs.Seen.Made.{CanMake}
 use Rattle.circus_world.specs.Seen.MadeAt.{IsMadeAt, HasMadeAt, IsSpentAt}
 use Rattle.circus_world.proofs.SlotLemmas.{slot_at, length_full, get_full, set_full, still_full, full_at}
+
+-- what is seen of what stands in the box
+abbrev pub inside_of : {M P : Type 0} → Inside M P → WorldState M
+inside_of i = world_of i.deployment i.modules.items i.slots.items i.sent i.steps
 
 module _ {M P : Type 0} where
   -- a node of the world has a slot
@@ -58,9 +64,9 @@ module _ {M P : Type 0} where
 module _ {M P : Type 0} (declared : M → Signature) (turn : M → List ValueTree → ℕ → List ValueTree → List Outcome → NextTurn) where
   -- ---- a node makes a step
 
-  pub made_full : (at node : ℕ) (event : Event) (old new : List (Slot M P)) (before after : List Sent)
-      → AreFull old → HasMadeAt declared turn at node event old before new after → AreFull new
-  made_full at node event old new before after full h =
+  pub made_full : (at node : ℕ) (event : Event) (old new : List (Slot M P)) (gives : List Give)
+      → AreFull old → HasMadeAt declared turn at node event old new gives → AreFull new
+  made_full at node event old new gives full h =
       subst (λ (l : List (Slot M P)). AreFull l) (sym h.new_is) (still_full old node h.next h.made.after full (ap (λ (x : Slot M P). x.core) h.made.new_is))
 
   comes_there : (d : Deployment) (modules : List M) (steps node : ℕ) (event : Event) (old : List (Slot M P)) (before : List Sent) (slot : Slot M P) (n : NodeState M)
@@ -72,10 +78,10 @@ module _ {M P : Type 0} (declared : M → Signature) (turn : M → List ValueTre
       let next : Standing M → Stepped M = λ s. conclude_step node s w (node_step.step_node declared turn (steps + 1) event s.node) in
       ap (λ (o : Option (Standing M)). option_map_or next o (Ok w)) (get_full old node slot n full at core)
 
-  pub made_is : (d : Deployment) (modules : List M) (steps node : ℕ) (event : Event) (old new : List (Slot M P)) (before after : List Sent)
-      → AreFull old → HasMadeAt declared turn (steps + 1) node event old before new after
+  pub made_is : (d : Deployment) (modules : List M) (steps node : ℕ) (event : Event) (old new : List (Slot M P)) (gives : List Give) (before after : List Sent)
+      → AreFull old → HasMadeAt declared turn (steps + 1) node event old new gives → after ≡ before ++ map (sent_by (steps + 1) node) gives
       → comes_to declared turn node event (world_of d modules old before steps) ≡ Ok (world_of d modules new after (steps + 1))
-  made_is d modules steps node event old new before after full h =
+  made_is d modules steps node event old new gives before after full h after_is =
       let made = h.made in
       let s : Standing M = standing made.before h.slot in
       let w : WorldState M = world_of d modules old before steps in
@@ -84,7 +90,7 @@ module _ {M P : Type 0} (declared : M → Signature) (turn : M → List ValueTre
       ∙ set_full old node h.next made.after full (ap (λ (x : Slot M P). x.core) made.new_is)
       ∙ ap (λ (x : Slot M P). set (standings old) node (standing made.after x)) made.new_is in
       let given : after ≡ before ++ map (sent_by (steps + 1) node) made.outputs.gives =
-      h.after_is ∙ ap (λ g. before ++ map (sent_by (steps + 1) node) g) made.gives_are in
+      after_is ∙ ap (λ g. before ++ map (sent_by (steps + 1) node) g) made.gives_are in
       let whole : List (Standing M) → List Sent → Stepped M =
       λ l m. Ok (record { deployment = d; modules = modules; nodes = l; sent = m; steps = steps + 1 }) in
       comes_there d modules steps node event old before h.slot made.before full h.there made.core
@@ -106,9 +112,9 @@ module _ {M P : Type 0} (declared : M → Signature) (turn : M → List ValueTre
       let core = full_at old node slot full at in
       record { node = core.0; core = core.1; can = can _ (get_full old node slot core.0 full at core.1) }
 
-  pub fault_followed : (d : Deployment) (modules : List M) (steps node : ℕ) (event : Event) (old new : List (Slot M P)) (before after : List Sent) (fault : Loss)
-      → AreFull old → IsMadeAt declared turn (steps + 1) node event old before new after (Err fault)
+  pub fault_followed : (d : Deployment) (modules : List M) (steps node : ℕ) (event : Event) (old new : List (Slot M P)) (before : List Sent) (fault : Loss)
+      → AreFull old → IsMadeAt declared turn (steps + 1) node event old new (Err fault)
       → IsFollowed (Err fault) (comes_to declared turn node event (world_of d modules old before steps))
-  fault_followed d modules steps node event old new before after (loss.Spent spent peer) full is =
+  fault_followed d modules steps node event old new before (loss.Spent spent peer) full is =
       spent_is d modules steps node event old before peer full is.1 ∙ ap (λ (k : ℕ). Err (k, peer)) (sym is.0)
-  fault_followed d modules steps node event old new before after loss.NoMemory full is = tt
+  fault_followed d modules steps node event old new before loss.NoMemory full is = tt

@@ -40,4 +40,18 @@ impl<M: Module> Slot<M> {
         self.core = Some(core);
         Ok(outputs.gives)
     }
+
+    /// As `make_step` with a datagram of another node.
+    pub fn hear(&mut self, at: u64, from: u16, datagram: &[u8]) -> Result<Gives, StepFault>
+        requires { CanMake (Event.Datagram from datagram.now) self.old }
+        ensures { IsMade M.declared M.turn at (Event.Datagram from datagram.now) self.old
+            self.new result }
+    {
+        let Some(core) = self.core.take() else {
+            unreachable!();
+        };
+        let (core, outputs) = core.hear(at, from, datagram)?;
+        self.core = Some(core);
+        Ok(outputs.gives)
+    }
 }

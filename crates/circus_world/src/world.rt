@@ -1,10 +1,11 @@
 // A program on simulated machines.
-ghost use Rattle.std.specs.Prelude.{◌≡◌, ◌<◌, [], ◌∷◌, ◌++◌, length, map, vec_len, slice_get, option_copied, option_map, option_and_then, OnOk};
+ghost use Rattle.std.specs.Prelude.{◌≡◌, ◌<◌, [], ◌∷◌, ◌++◌, length, map, vec_len, slice_get, option_copied, option_map, option_and_then, IfOk, OnOk};
 ghost use Rattle.circus_collate.specs.Deployment.{IsDeployment};
 ghost use Rattle.circus_schedule.specs.Meaning.{NamesBelow};
 ghost use Rattle.circus_node.specs.NodeState.{member_record as record_of, ring_views as views_of};
 ghost use Rattle.circus_node.specs.Booting.{AreOfTroupes};
 ghost use Rattle.circus_node.specs.Recorded.{IsRecorded};
+ghost use Rattle.circus_world.specs.Sent.{Sent as SentOf};
 ghost use Rattle.circus_world.specs.WorldState.{Standing};
 ghost use Rattle.circus_world.specs.Legal as legal;
 ghost use Rattle.circus_world.specs.Legal.{refusal};
@@ -19,7 +20,6 @@ ghost use Rattle.circus_world.specs.declared.slot.Slot.{Slot as SlotOf};
 use crate::legal::is_spare;
 use crate::slot::Slot;
 use crate::{Line, LineCause, SentList};
-use bytes::Bytes;
 use circus_collate::{Deployment, Views};
 use circus_model::Module;
 use circus_node::{Event, Gives, NodeCore, StepFault};
@@ -31,6 +31,11 @@ use thiserror::Error;
 
 /// The nodes of a program after boot and some lines, and what they have sent (docs/PROTOCOL.md, "The world").
 pub struct World<M: Module> {
+    inside: Box<Inside<M>>,
+}
+
+// What it is, in a box, so that a step moves a word (docs/PROOFS.md, "Speed").
+struct Inside<M: Module> {
     deployment: Deployment,
     modules: Vec<M>,
     slots: Vec<Slot<M>>,
@@ -39,15 +44,21 @@ pub struct World<M: Module> {
 }
 
 // Written out, so that dropping one is one step of a proof (docs/PROOFS.md, "Cost").
-impl<M: Module> Drop for World<M> {
+impl<M: Module> Drop for Inside<M> {
     fn drop(self) {
-        let World {
+        let Inside {
             deployment: _,
             modules: _,
             slots: _,
             sent: _,
             steps: _,
         } = self;
+    }
+}
+
+impl<M: Module> Drop for World<M> {
+    fn drop(self) {
+        let World { inside: _ } = self;
     }
 }
 
@@ -61,9 +72,9 @@ impl<M: Module> Model for World<M> {
 
     ghost coded = { world_code M.code };
 
-    ghost view = { λ a. world_of a.deployment a.modules.items a.slots.items a.sent a.steps };
+    ghost view = { λ a. let i = a.inside.value in world_of i.deployment i.modules.items i.slots.items i.sent i.steps };
 
-    ghost invariant = { λ a. AreFull a.slots.items × IsSound (world_of a.deployment a.modules.items a.slots.items a.sent a.steps) };
+    ghost invariant = { λ a. let i = a.inside.value in AreFull i.slots.items × IsSound (world_of i.deployment i.modules.items i.slots.items i.sent i.steps) };
 }
 
 /// Why no world boots.
@@ -124,13 +135,15 @@ impl<M: Module> World<M> {
             &mut slots,
             &mut sent,
         )?;
-        Ok(World {
+        let own = Inside {
             deployment,
             modules,
             slots,
             sent,
             steps: 0,
-        })
+        };
+        let inside = in_box(alloc, own)?;
+        Ok(World { inside })
     }
 
     /// Steps a line: each is one step, the first of them step 1 (docs/FORMATS.md, "Schedules"). The line names nodes of the
@@ -159,14 +172,14 @@ impl<M: Module> World<M> {
         ensures is { IsDeployment self.now.deployment }
         ensures all { length self.now.nodes ≡ length self.now.deployment.nodes }
     {
-        &self.deployment
+        &self.inside.deployment
     }
 
     /// All that was sent, in order: the place of a datagram is its number. It takes no memory.
     pub fn sent(&self) -> &SentList
         ensures { result.now ≡ self.now.sent }
     {
-        &self.sent
+        &self.inside.sent
     }
 
     /// What the member at a node did, up to its crash where the node has crashed. `None` exactly where it hosts none. It
@@ -186,7 +199,7 @@ impl<M: Module> World<M> {
         requires { node < length self.now.nodes }
         ensures { result ≡ option_and_then (λ s. s.crashed) (slice_get self.now.nodes node) }
     {
-        self.slots[usize::from(node)].crashed
+        self.inside.slots[usize::from(node)].crashed
     }
 
     /// The views that the Ringmaster keeps, one a troupe, up to its crash where its node has crashed. It takes no memory.
@@ -194,7 +207,7 @@ impl<M: Module> World<M> {
         ensures { option_and_then (λ s. views_of s.node.acting) (slice_get self.now.nodes 0)
             ≡ Some result.now }
     {
-        let Some(core) = &self.slots[0].core else {
+        let Some(core) = &self.inside.slots[0].core else {
             unreachable!();
         };
         match core.ring_views() {
@@ -208,7 +221,7 @@ impl<M: Module> World<M> {
         requires { node < length self.now.nodes }
         ensures { option_map (λ s. s.node) (slice_get self.now.nodes node) ≡ Some result.now }
     {
-        match &self.slots[usize::from(node)].core {
+        match &self.inside.slots[usize::from(node)].core {
             Some(core) => core,
             None => unreachable!(),
         }
@@ -236,7 +249,7 @@ impl<M: Module> World<M> {
     fn unless_sent(&self, number: u64) -> Option<LineCause>
         ensures { result ≡ legal.unless_sent self.now number }
     {
-        let sent = self.sent.len() as u64;
+        let sent = self.inside.sent.len() as u64;
         if number < sent {
             None
         } else {
@@ -259,13 +272,13 @@ impl<M: Module> World<M> {
         requires { node < length self.now.nodes }
         ensures { result ≡ refusal self.now (Line.Join node) }
     {
-        if !is_spare(&self.deployment, node) {
+        if !is_spare(&self.inside.deployment, node) {
             return Some(LineCause::NotSpare(node));
         }
         if let Some(cause) = self.unless_live(node) {
             return Some(cause);
         }
-        if self.slots[usize::from(node)].joins {
+        if self.inside.slots[usize::from(node)].joins {
             return Some(LineCause::AlreadyJoined(node));
         }
         None
@@ -293,15 +306,32 @@ impl<M: Module> World<M> {
         ensures { IsFollowed result
             (course.step_line M.declared M.turn (Line.Deliver number) self) }
     {
-        let Some(sent) = self.sent.get(number as usize) else {
+        let Some(sent) = self.inside.sent.get(number as usize) else {
             return Ok(self);
         };
-        let (from, to) = (sent.from, sent.to);
-        if self.crashed(to).is_some() {
+        if self.crashed(sent.to).is_some() {
             return Ok(self.pass());
         }
-        let bytes = Bytes::copy_from_slice(*self.slots.allocator(), sent.bytes)?;
-        self.comes_to(to, Event::Datagram(from, bytes))
+        self.hear(number)
+    }
+
+    // A datagram comes to its node, which makes a step: its bytes are read where they stand.
+    fn hear(self, number: u64) -> Result<Self, Loss>
+        requires there { number < length self.sent }
+        requires few { self.steps < 18446744073709551615 }
+        ensures { (sent : SentOf) → slice_get self.sent number ≡ Some sent
+            → IsFollowed result (course.comes_to M.declared M.turn sent.to
+            (Event.Datagram sent.from sent.bytes) self) }
+    {
+        let World { mut inside } = self;
+        let own = &mut *inside;
+        let step = own.steps + 1;
+        let sent = own.sent.at(number as usize);
+        let node = sent.to;
+        let gives = hear_at(&mut own.slots, node, step, sent.from, sent.bytes)?;
+        send(step, node, gives, &mut own.sent)?;
+        own.steps = step;
+        Ok(World { inside })
     }
 
     // Something comes to a node, which makes a step.
@@ -311,22 +341,13 @@ impl<M: Module> World<M> {
         requires event { MayCome (length self.nodes) node event }
         ensures { IsFollowed result (course.comes_to M.declared M.turn node event self) }
     {
-        let World {
-            deployment,
-            modules,
-            mut slots,
-            mut sent,
-            steps,
-        } = self;
-        let at = steps + 1;
-        make_at(&mut slots, node, at, event, &mut sent)?;
-        Ok(World {
-            deployment,
-            modules,
-            slots,
-            sent,
-            steps: at,
-        })
+        let World { mut inside } = self;
+        let own = &mut *inside;
+        let at = own.steps + 1;
+        let gives = make_at(&mut own.slots, node, at, event)?;
+        send(at, node, gives, &mut own.sent)?;
+        own.steps = at;
+        Ok(World { inside })
     }
 
     // A step in which no node does anything.
@@ -334,20 +355,10 @@ impl<M: Module> World<M> {
         requires { self.steps < 18446744073709551615 }
         ensures { result ≡ course.pass_step self }
     {
-        let World {
-            deployment,
-            modules,
-            slots,
-            sent,
-            steps,
-        } = self;
-        World {
-            deployment,
-            modules,
-            slots,
-            sent,
-            steps: steps + 1,
-        }
+        let World { mut inside } = self;
+        let own = &mut *inside;
+        own.steps += 1;
+        World { inside }
     }
 
     fn crash(self, node: u16) -> Self
@@ -355,43 +366,21 @@ impl<M: Module> World<M> {
         requires few { self.steps < 18446744073709551615 }
         ensures { result ≡ course.crash_node node self }
     {
-        let World {
-            deployment,
-            modules,
-            mut slots,
-            sent,
-            steps,
-        } = self;
-        let steps = steps + 1;
-        slots[usize::from(node)].crashed = Some(steps);
-        World {
-            deployment,
-            modules,
-            slots,
-            sent,
-            steps,
-        }
+        let World { mut inside } = self;
+        let own = &mut *inside;
+        own.steps += 1;
+        own.slots[usize::from(node)].crashed = Some(own.steps);
+        World { inside }
     }
 
     fn tell_to_join(self, node: u16) -> Self
         requires { node < length self.nodes }
         ensures { result ≡ course.told_to_join node self }
     {
-        let World {
-            deployment,
-            modules,
-            mut slots,
-            sent,
-            steps,
-        } = self;
-        slots[usize::from(node)].joins = true;
-        World {
-            deployment,
-            modules,
-            slots,
-            sent,
-            steps,
-        }
+        let World { mut inside } = self;
+        let own = &mut *inside;
+        own.slots[usize::from(node)].joins = true;
+        World { inside }
     }
 }
 
@@ -411,6 +400,12 @@ impl From<NoMemory> for Loss {
     fn from(_refused: NoMemory) -> Self {
         Loss::NoMemory
     }
+}
+
+fn in_box<M: Module>(alloc: Global, inside: Inside<M>) -> Result<Box<Inside<M>>, NoMemory>
+    ensures { IfOk result (λ held. held.value ≡ inside) }
+{
+    Ok(Box::new(alloc, inside)?)
 }
 
 fn add<M: Module>(slots: &mut Vec<Slot<M>>, slot: Slot<M>) -> Result<(), NoMemory>
@@ -468,27 +463,44 @@ fn boot_at<M: Module>(
     Ok(())
 }
 
-// A node makes a step, and what it gives is sent.
+// A node makes a step, and what it gives.
 fn make_at<M: Module>(
     slots: &mut Vec<Slot<M>>,
     node: u16,
     at: u64,
     event: Event,
-    sent: &mut SentList,
-) -> Result<(), Loss>
+) -> Result<Gives, Loss>
     requires node { node < vec_len slots.old }
     requires can { (slot : SlotOf M M.Paused) → slice_get slots.old.items node ≡ Some slot
         → CanMake event slot }
-    ensures { IsMadeAt M.declared M.turn at node event slots.old.items sent.old slots.new.items
-        sent.new result }
+    ensures { IsMadeAt M.declared M.turn at node event slots.old.items slots.new.items result }
 {
-    let gives = match slots[usize::from(node)].make_step(at, event) {
-        Ok(gives) => gives,
-        Err(StepFault::NoMemory) => return Err(Loss::NoMemory),
-        Err(StepFault::Spent(peer)) => return Err(Loss::Spent(node, peer)),
-    };
-    send(at, node, gives, sent)?;
-    Ok(())
+    match slots[usize::from(node)].make_step(at, event) {
+        Ok(gives) => Ok(gives),
+        Err(StepFault::NoMemory) => Err(Loss::NoMemory),
+        Err(StepFault::Spent(peer)) => Err(Loss::Spent(node, peer)),
+    }
+}
+
+// As `make_at` with a datagram of another node.
+fn hear_at<M: Module>(
+    slots: &mut Vec<Slot<M>>,
+    node: u16,
+    at: u64,
+    from: u16,
+    datagram: &[u8],
+) -> Result<Gives, Loss>
+    requires node { node < vec_len slots.old }
+    requires can { (slot : SlotOf M M.Paused) → slice_get slots.old.items node ≡ Some slot
+        → CanMake (Event.Datagram from datagram.now) slot }
+    ensures { IsMadeAt M.declared M.turn at node (Event.Datagram from datagram.now)
+        slots.old.items slots.new.items result }
+{
+    match slots[usize::from(node)].hear(at, from, datagram) {
+        Ok(gives) => Ok(gives),
+        Err(StepFault::NoMemory) => Err(Loss::NoMemory),
+        Err(StepFault::Spent(peer)) => Err(Loss::Spent(node, peer)),
+    }
 }
 
 // What a node gives in a step is sent.

@@ -144,7 +144,7 @@ fn replay<M: Module>(
     let world = World::boot(alloc, deployment, modules)?;
     let mut running = Running::begin(alloc, world, sink)?;
     for number in 0..4 {
-        running = running.line(alloc, &Line::Deliver(number), sink)?;
+        running = running.line(&Line::Deliver(number), sink)?;
     }
     running.finish(alloc, names, sink)?;
     Ok(())

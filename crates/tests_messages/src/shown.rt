@@ -1,7 +1,7 @@
 // Shown texts: of a string, and of interfaces, which are read again from theirs.
 use circus_idl::{Interface, read_interface, show_interface};
 use circus_text::{LONGEST_TEXT, tokens};
-use circus_value::{ListOf, Value, show};
+use circus_value::{ListOf, Text, Value, show};
 use std::alloc::Global;
 use std::test::Fail;
 
@@ -63,7 +63,7 @@ fn interfaces_are_shown_and_read_again(rt: HostRuntime) -> Result<(), Fail> {
 fn a_string_is_shown(rt: HostRuntime) -> Result<(), Fail> {
     let mut bytes = ListOf::new(rt.alloc());
     bytes.append(b"a\"\n\\~\x7f\xff")?;
-    let shown = show(rt.alloc(), &Value::Text(bytes))?;
+    let shown = show(rt.alloc(), &Value::Text(Text::of(rt.alloc(), bytes)?))?;
     assert_eq!(rt; shown.as_slice(), b"\"a\\22\\0a\\5c~\\7f\\ff\"".as_slice());
     Ok(())
 }

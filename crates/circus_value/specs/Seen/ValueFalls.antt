@@ -1,7 +1,6 @@
 -- A value's parts are lighter than the value.
-use Rattle.std.specs.Prelude.{ℕ, ◌≤◌, Option, None, Some, List, [], ◌∷◌, map}
+use Rattle.std.specs.Prelude.{◌≤◌, Option, None, Some, List, [], ◌∷◌, map}
 use Rattle.std.specs.declared.alloc.Global.{Global}
-use Rattle.std.specs.declared.vec.Vec.{Vec}
 use Rattle.std.specs.declared.rc.Rc.{Rc}
 use Rattle.std.proofs.Common.{arith}
 use denote.Param.Weighed.{most}
@@ -10,6 +9,7 @@ use Rattle.circus_value.specs.ValueOf.{tree_of}
 use Rattle.circus_value.specs.Seen.ValueWeight.{weight, weights}
 use Rattle.circus_value.specs.declared.value.Value.{Value}
 use Rattle.circus_value.specs.declared.value.Value.TheVariants as V
+use Rattle.circus_value.specs.declared.value.Items.{Items}
 use Rattle.circus_value.specs.Seen.SharedItems.{items_in}
 use Rattle.circus_value.specs.declared.value.Chosen.TheDeep.{deep-Value, deep-Values}
 
@@ -30,6 +30,6 @@ pub most_deep_le-weights : (vs : List Value) → most deep-Value vs ≤ weights 
 most_deep_le-weights [] = omega arith
 most_deep_le-weights (v ∷ vs) = omega (arith, deep_le-weight v, most_deep_le-weights vs)
 
-pub items_fall : (alloc : Global) (items : Option (Rc (Vec Value Global) Global)) (size : ℕ) → deep-Values (record { alloc = alloc; items = items; size = size }) ≤ weights (value_trees (map tree_of (items_in items)))
-items_fall alloc None size = omega arith
-items_fall alloc (Some items) size = omega (arith, most_deep_le-weights items.value.items)
+pub items_fall : (alloc : Global) (items : Option (Rc Items Global)) → deep-Values (record { alloc = alloc; items = items }) ≤ weights (value_trees (map tree_of (items_in items)))
+items_fall alloc None = omega arith
+items_fall alloc (Some items) = omega (arith, most_deep_le-weights items.value.values.items)

@@ -23,15 +23,13 @@ use Rattle.circus_world.specs.Seen.Slots.{AreFull, world_of}
 use Rattle.circus_world.specs.Seen.Made.{HasMade}
 
 module _ {M P : Type 0} (declared : M → Signature) (turn : M → List ValueTree → ℕ → List ValueTree → List Outcome → NextTurn) where
-  -- the node at a place has made a step, and what it gave was sent
-  pub record HasMadeAt (at node : ℕ) (event : Event) (old : List (Slot M P)) (before : List Sent) (new : List (Slot M P)) (after : List Sent) : Type 0 where
+  -- the node at a place has made a step
+  pub record HasMadeAt (at node : ℕ) (event : Event) (old new : List (Slot M P)) (gives : List Give) : Type 0 where
     pub slot : Slot M P
     pub there : slice_get old node ≡ Some slot
     pub next : Slot M P
-    pub gives : List Give
     pub made : HasMade declared turn at event slot next gives
     pub new_is : new ≡ slice_set old node next
-    pub after_is : after ≡ before ++ map (sent_by at node) gives
 
   -- the node at a place has no number left for another one
   pub record IsSpentAt (at node : ℕ) (event : Event) (old : List (Slot M P)) (peer : ℕ) : Type 0 where
@@ -41,10 +39,10 @@ module _ {M P : Type 0} (declared : M → Signature) (turn : M → List ValueTre
     pub core : slot.core ≡ Some before
     pub stepped_is : step_node declared turn at event before ≡ Err peer
 
-  abbrev pub IsMadeAt : ℕ → ℕ → Event → List (Slot M P) → List Sent → List (Slot M P) → List Sent → Result (Unit {0}) Loss → Type 0
-  IsMadeAt at node event old before new after (Ok done) = HasMadeAt at node event old before new after
-  IsMadeAt at node event old before new after (Err (loss.Spent spent peer)) = (spent ≡ node) × IsSpentAt at node event old peer
-  IsMadeAt at node event old before new after (Err loss.NoMemory) = Unit {0}
+  abbrev pub IsMadeAt : ℕ → ℕ → Event → List (Slot M P) → List (Slot M P) → Result (List Give) Loss → Type 0
+  IsMadeAt at node event old new (Ok gives) = HasMadeAt at node event old new gives
+  IsMadeAt at node event old new (Err (loss.Spent spent peer)) = (spent ≡ node) × IsSpentAt at node event old peer
+  IsMadeAt at node event old new (Err loss.NoMemory) = Unit {0}
 
 module _ {M : Type 0} (declared : M → Signature) (turn : M → List ValueTree → ℕ → List ValueTree → List Outcome → NextTurn) (first : M → List ValueTree) where
   -- a node that boots has no number left for another one

@@ -46,7 +46,7 @@ read_fields-read_from-requires g t c κs within =
 
 pub read_items-returns-in_err-item : goal.read_items-returns-in_err-item
 read_items-returns-in_err-item g t c =
-    let p = err_from_is_err_and c.from_residual.result c.from_residual.ensures.1 in
+    let p = err_from_is_err_and c.from_residual-in_err-item.result c.from_residual-in_err-item.ensures.1 in
     rw (p.1, p.2)
     (items_fault values.tree_of (g.S.ByteSource.octets c.args.source.now) c.in_err-item.field-0.0 (reading (shapes.tree_of c.args.shape.now)) c.args.count c.loop.counter c.loop.place
     (drop c.loop.place (g.S.ByteSource.octets c.args.source.now)) c.loop.items _ c.loop-test.true c.in_err-item.ensures c.loop.invariant.read)

@@ -1,5 +1,4 @@
-use Rattle.std.proofs.Common.{◌≡◌, List, Option, sym, ap, subst, ◌∙◌}
-use Rattle.std.specs.Option.{option_to_list}
+use Rattle.std.proofs.Common.{◌≡◌, List, sym, ap, subst, ◌∙◌}
 use Rattle.circus_member_rules.specs.declared.occurrence.Effect.{Effect}
 use Rattle.circus_member_rules.specs.declared.occurrence.Difference.{Difference}
 use Rattle.circus_member_rules.specs.MemberState.{MemberState}
@@ -10,17 +9,17 @@ use Rattle.circus_node.specs.Seen.Kept.{IsActing}
 use Rattle.circus_node.proofs.ViewLemmas.{still_member}
 use Rattle.circus_node.proofs.acting.happen.Goals as goal
 
-both_came : (came : Consequences) (es made : List Effect) (o p : Option Difference)
-    → came ≡ consequences es (option_to_list o) → es ≡ made → o ≡ p → came ≡ consequences made (option_to_list p)
-both_came came es made o p is effects difference =
-    is ∙ ap (λ x. consequences x (option_to_list o)) effects ∙ ap (λ x. consequences made (option_to_list x)) difference
+both_came : (came : Consequences) (es made : List Effect) (ds told : List Difference)
+    → came ≡ consequences es ds → es ≡ made → ds ≡ told → came ≡ consequences made told
+both_came came es made ds told is effects differences =
+    is ∙ ap (λ x. consequences x ds) effects ∙ ap (λ x. consequences made x) differences
 
 pub returns-clause-acting : goal.returns-clause-acting
 returns-clause-acting g c = c.member.ensures ∙ ap (λ (m : MemberState g.row.M.Denot). member m) c.in_ok-member.ensures.member
 
 pub returns-clause-came : goal.returns-clause-came
 returns-clause-came g c =
-    both_came c.in_ok-came.came c.in_ok-member.effects _ c.in_ok-member.difference _ c.in_ok-came.ensures c.in_ok-member.ensures.effects c.in_ok-member.ensures.difference
+    both_came c.of-came.result c.in_ok-member.effects _ c.in_ok-member.differences _ c.of-came.ensures c.in_ok-member.ensures.effects c.in_ok-member.ensures.differences
 
 pub returns-clause-kept : goal.returns-clause-kept
 returns-clause-kept g c d of =

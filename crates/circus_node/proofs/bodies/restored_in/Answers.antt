@@ -11,6 +11,6 @@ returns-in-Ok-clause-state c =
     (λ within. record {
       fits =
           state_given c.args.signature.now.variables c.as_slice.result.now c.in-Ok.state c.in-Ok.count _
-          (subst AreOctets (sym (c.as_slice.ensures ∙ c.in_ok-bytes.ensures)) c.len.ensures.octets) c.in-Ok.ensures.exact;
+          (subst AreOctets (sym (c.as_slice.ensures.value ∙ c.in_ok-bytes.ensures)) c.len.ensures.octets) c.in-Ok.ensures.exact;
       within = let less = leb-true _ _ within in omega (arith, less, c.values_size.ensures, c.from.ensures);
     })

@@ -8,4 +8,4 @@ returns-clause-read c =
     found_is c.unless_refused.result c.read_call.result _ c.unless_refused.ensures.found c.unless_refused.ensures.made
     (λ made.
     call_in_is c.as_slice.result.now c.read_call.result c.read_call.ensures made
-    ∙ ap call_in (c.as_slice.ensures ∙ c.in_ok-bytes.ensures))
+    ∙ ap call_in (c.as_slice.ensures.value ∙ c.in_ok-bytes.ensures))

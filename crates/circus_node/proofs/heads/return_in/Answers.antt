@@ -8,4 +8,4 @@ returns-clause-read c =
     found_is c.unless_refused.result c.read_return.result _ c.unless_refused.ensures.found c.unless_refused.ensures.made
     (λ made.
     return_in_is c.as_slice.result.now c.read_return.result c.read_return.ensures made
-    ∙ ap return_in (c.as_slice.ensures ∙ c.in_ok-bytes.ensures))
+    ∙ ap return_in (c.as_slice.ensures.value ∙ c.in_ok-bytes.ensures))

@@ -1,4 +1,4 @@
-use Rattle.std.proofs.Common.{◌≡◌, ◌<◌, ◌≤◌, ◌+◌, List, [], ◌++◌, length, drop, sym, ap, subst, ◌∙◌, arith}
+use Rattle.std.proofs.Common.{◌≡◌, ◌<◌, ◌≤◌, ◌+◌, ◌-◌, List, [], ◌++◌, length, take, drop, sym, ap, subst, ◌∙◌, arith}
 use Rattle.std.proofs.lemmas.Option.{get_or_from_slice_get}
 use Rattle.circus_collate.specs.declared.deployment.Host.{Host}
 use Rattle.circus_record.specs.Naming.{names_of}
@@ -7,14 +7,13 @@ use Rattle.circus_world.specs.Seen.Entries.{sent_as}
 use Rattle.circus_report.specs.Report.{sent_line, sent_lines}
 use Rattle.circus_report.specs.Writing.{Writes, WritesPart}
 use Rattle.circus_report.specs.Run.{sent_from}
-use Rattle.circus_report.proofs.Leaving.{added_alone}
-use Rattle.circus_report.proofs.ToldLemmas.{Writes-joined, WritesPart-all, WritesPart-joined}
+use Rattle.circus_report.proofs.ToldLemmas.{Writes-joined, WritesPart-all, WritesPart-joined, take-behind}
 use Rattle.circus_report.proofs.SentLines.{lines_before, lines_before-more, lines_before-all, WritesPart-lines}
 use Rattle.circus_report.proofs.PutLemmas.{IsPut-no_memory, IsPut-stopped}
 use Rattle.circus_report.proofs.running.put_sent.Goals as goal
 
-pub returns-in_err-append_sent-clause-put : goal.returns-in_err-append_sent-clause-put
-returns-in_err-append_sent-clause-put g c =
+pub returns-in_err-start-clause-put : goal.returns-in_err-start-clause-put
+returns-in_err-start-clause-put g c =
     let w = c.args.world.now in
     let names = names_of w.deployment.nodes [] in
     let from = c.args.from in
@@ -42,10 +41,11 @@ returns-in_err-put_line-clause-put g c =
     let below : number < length all = omega (arith, c.loop-number-test.true, c.len-number-end.ensures) in
     let hosts : List Host = c.as_slice-nodes.result.now in
     let hosts_are : hosts ≡ c.args.world.now.deployment.nodes = c.as_slice-nodes.ensures ∙ ap (λ d. d.nodes) c.deployment.ensures.value in
-    let line = c.as_slice.result.now in
+    let start = c.in_ok-start.start in
+    let room = c.as_slice.result.now in
+    let line = take (length room - start) (drop start room) in
     let line_is : line ≡ sent_line names number sent =
-    added_alone line _ _ (sent_line (names_of hosts []) number sent) c.as_slice.ensures.value c.in_ok-append_sent.ensures c.clear.ensures.items
-    ∙ ap (λ (hs : List Host). sent_line (names_of hs []) number sent) hosts_are in
+    take-behind room start ∙ ap (drop start) c.as_slice.ensures.value ∙ c.in_ok-start.ensures.line ∙ ap (λ (hs : List Host). sent_line (names_of hs []) number sent) hosts_are in
     let more = lines_before-more names from all number sent c.loop-number.auto.number below (sym (get_or_from_slice_get all number sent sent c.at.ensures)) in
     let part : WritesPart old new (lines_before names from all number ++ line) =
     WritesPart-joined old middle new (lines_before names from all number) line c.loop-number.invariant.written c.in_err-put_line.ensures.part in
@@ -68,10 +68,11 @@ loop-number-preserved g c =
     let below : number < length all = omega (arith, c.loop-number-test.true, c.len-number-end.ensures) in
     let hosts : List Host = c.as_slice-nodes.result.now in
     let hosts_are : hosts ≡ c.args.world.now.deployment.nodes = c.as_slice-nodes.ensures ∙ ap (λ d. d.nodes) c.deployment.ensures.value in
-    let line = c.as_slice.result.now in
+    let start = c.in_ok-start.start in
+    let room = c.as_slice.result.now in
+    let line = take (length room - start) (drop start room) in
     let line_is : line ≡ sent_line names number sent =
-    added_alone line _ _ (sent_line (names_of hosts []) number sent) c.as_slice.ensures.value c.in_ok-append_sent.ensures c.clear.ensures.items
-    ∙ ap (λ (hs : List Host). sent_line (names_of hs []) number sent) hosts_are in
+    take-behind room start ∙ ap (drop start) c.as_slice.ensures.value ∙ c.in_ok-start.ensures.line ∙ ap (λ (hs : List Host). sent_line (names_of hs []) number sent) hosts_are in
     let more = lines_before-more names from all number sent c.loop-number.auto.number below (sym (get_or_from_slice_get all number sent sent c.at.ensures)) in
     record {
       written =

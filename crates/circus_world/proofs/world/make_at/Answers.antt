@@ -20,8 +20,8 @@ returns-in-Err-Spent g c =
     let made = subst (λ f. IsMade M.declared M.turn c.args.at c.args.event c.index_mut.result.now c.make_step.new.self (Err f)) c.in-Err-Spent.field-0-is c.in-Err-Spent.ensures in
     (refl, record { slot = slot; there = there; before = made.0; core = made.1; stepped_is = made.2 })
 
-pub returns : goal.returns
-returns g c =
+pub returns-in-Ok : goal.returns-in-Ok
+returns-in-Ok g c =
     let slots = c.args.slots.now in
     let slot : Slot g.row.M.Denot g.row.M-Paused.Denot = c.index_mut.result.now in
     let there = slot_at slots.items c.args.node slot (omega (arith, c.requires.node, slots.ok.0)) (c.index_mut.ensures.value ∙ ap (λ k. get_or slots.items k slot) c.from.ensures) in
@@ -29,8 +29,6 @@ returns g c =
       slot = slot;
       there = there;
       next = c.make_step.new.self;
-      gives = c.in-Ok.gives;
       made = c.in-Ok.ensures;
       new_is = ap (λ k. set c.args.slots.now.items k c.make_step.new.self) c.from.ensures;
-      after_is = c.in_ok-send.ensures;
     }

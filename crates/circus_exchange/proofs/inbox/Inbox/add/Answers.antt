@@ -1,4 +1,4 @@
-use Rattle.std.proofs.Common.{◌≡◌, ◌≢◌, ℕ, Bool, true, false, not, ◌&&◌, eqb, List, refl, ap, sym, subst, ◌∙◌}
+use Rattle.std.proofs.Common.{◌≡◌, ◌≢◌, ℕ, Bool, true, false, ◌&&◌, eqb, List, refl, ap, sym, subst, ◌∙◌}
 use Rattle.std.proofs.lemmas.Bool.{eqb-true, eqb-false}
 use Rattle.std.proofs.lemmas.Result.{on_ok_weaker, on_err_weaker}
 use Rattle.std.specs.Ordering.{nat_cmp}
@@ -11,14 +11,6 @@ use Rattle.circus_exchange.proofs.Endings.{well_ended, ill_ended, none_stood}
 use Rattle.circus_exchange.proofs.Knowing.{known_more, known_put, known_less, known_noted}
 use Rattle.circus_exchange.proofs.Inboxes.{parts_old, parts_whole, parts_part, added_is, undone}
 use Rattle.circus_exchange.proofs.inbox.Inbox.add.Goals as goal
-
-unless : (b : Bool) → not b ≡ true → b ≡ false
-unless true h = absurd cc
-unless false h = refl
-
-if_not : (b : Bool) → not b ≡ false → b ≡ true
-if_not true h = refl
-if_not false h = absurd cc
 
 second : (a b : Bool) → (a && b) ≡ true → b ≡ true
 second true b h = h
@@ -36,7 +28,7 @@ returns-then-not-advance-clause-ok c =
     let s = piece c.args.segment.now in
     let now = sym c.self.view_is in
     let count = c.requires.count ∙ ap (λ (b : Arriving). count_with b s) now in
-    let old = sym (c.requires.is_new ∙ ap (λ (b : Arriving). is_new b s) now) ∙ unless c.args.advance.is_new c.if-not-advance.true in
+    let old = sym (c.requires.is_new ∙ ap (λ (b : Arriving). is_new b s) now) ∙ c.if-not-advance.true in
     on_ok_weaker c.insert.result (λ e. added_is _ s c.args.advance.count _ _ count e (sym (parts_old _ s old)) ∙ ap (λ (b : Arriving). add_segment b s) c.self.view_is) c.insert.ensures.ok
 
 pub invariant_of-self-then-completes : goal.invariant_of-self-then-completes
@@ -52,7 +44,7 @@ returns-then-completes-clause-ok c =
     let s = piece c.args.segment.now in
     let now = sym c.self.view_is in
     let count = c.requires.count ∙ ap (λ (b : Arriving). count_with b s) now in
-    let new = sym (c.requires.is_new ∙ ap (λ (b : Arriving). is_new b s) now) ∙ if_not c.args.advance.is_new c.if-not-advance.false in
+    let new = sym (c.requires.is_new ∙ ap (λ (b : Arriving). is_new b s) now) ∙ c.if-not-advance.false in
     let whole : c.args.advance.count ≡ s.total = eqb-true _ _ (second c.args.advance.is_new _ (sym c.completes.ensures ∙ c.if-completes.true)) in
     added_is _ s c.args.advance.count _ _ count c.in_ok-insert.ensures.ok (c.forget.ensures ∙ sym (parts_whole _ s new (sym count ∙ whole)))
     ∙ ap (λ (b : Arriving). add_segment b s) c.self.view_is
@@ -92,10 +84,10 @@ returns-else-is_err-clause-ok c =
     let s = piece c.args.segment.now in
     let now = sym c.self.view_is in
     let count = c.requires.count ∙ ap (λ (b : Arriving). count_with b s) now in
-    let is = if_not c.args.advance.is_new c.if-not-advance.false in
+    let is = c.if-not-advance.false in
     let new = sym (c.requires.is_new ∙ ap (λ (b : Arriving). is_new b s) now) ∙ is in
     let open_ : c.args.advance.count ≢ s.total = open_of c.args.advance.is_new _ _ is (sym c.completes.ensures ∙ c.if-completes.false) in
-    let part = c.of.ensures ∙ c.requires.part in
+    let part = c.of-part.ensures ∙ c.in_ok-copy_from_slice.ensures in
     on_ok_weaker c.insert-noted.result (λ e.
     added_is _ s c.args.advance.count _ _ count e (c.in_ok-add.ensures.ok ∙ ap (with_part c.self.inside.parts s.call s.number) part ∙ sym (parts_part _ s new (λ same. open_ (count ∙ same))))
     ∙ ap (λ (b : Arriving). add_segment b s) c.self.view_is) c.insert-noted.ensures.ok

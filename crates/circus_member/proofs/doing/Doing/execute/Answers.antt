@@ -19,39 +19,39 @@ starts-init g c =
       same = ap (λ (d : Doing g.row.M.Denot). start_runs M.declared M.turn c.args.at (held_by d) d) c.in_ok-doing.ensures;
     }
 
-pub enter-requires-clause-sound : goal.enter-requires-clause-sound
-enter-requires-clause-sound g c =
+pub enter_boxed-requires-clause-sound : goal.enter_boxed-requires-clause-sound
+enter_boxed-requires-clause-sound g c =
     let M = g.M.Module in
     let lawful : (hosted : g.row.M.Denot) → IsModule (behaviour M.declared M.turn M.first hosted) = λ hosted. record { first_is_state = g.met.M.Module.first_is_state hosted; turns_are_lawful = g.met.M.Module.turns_are_lawful hosted } in
     let sound = c.starts.invariant.sound in
-    let goes : Goes M.declared M.turn M.first lawful c.args.at c.starts.doing.value sound c.into_inner.result c.in-Some.start = record { given = c.into_inner.ensures ∙ c.in_ok-give_states.ensures ∙ ap (λ (x : Doing g.row.M.Denot). given_states x) c.deref_mut.ensures.value; starts = sym c.in-Some.is ∙ c.in_ok-start.ensures ∙ ap (λ (x : Doing g.row.M.Denot). option_map (start_by_call x.member.place.troupe (M.declared x.member.performing.hosted).procedures) (next_start x.member)) (c.deref.ensures ∙ sym c.into_inner.ensures) } in
-    goes_sound M.declared M.turn M.first lawful c.args.at c.starts.doing.value sound c.into_inner.result c.in-Some.start goes
+    let goes : Goes M.declared M.turn M.first lawful c.args.at c.starts.doing.value sound c.give_states.new.self c.in-Some.start = record { given = c.in_ok-give_states.ensures ∙ ap (λ (x : Doing g.row.M.Denot). given_states x) c.deref_mut.ensures.value; starts = sym c.in-Some.is ∙ c.in_ok-start.ensures ∙ ap (λ (x : Doing g.row.M.Denot). option_map (start_by_call x.member.place.troupe (M.declared x.member.performing.hosted).procedures) (next_start x.member)) c.deref.ensures } in
+    goes_sound M.declared M.turn M.first lawful c.args.at c.starts.doing.value sound c.give_states.new.self c.in-Some.start goes
 
-pub enter-requires-clause-may : goal.enter-requires-clause-may
-enter-requires-clause-may g c =
+pub enter_boxed-requires-clause-may : goal.enter_boxed-requires-clause-may
+enter_boxed-requires-clause-may g c =
     let M = g.M.Module in
     let lawful : (hosted : g.row.M.Denot) → IsModule (behaviour M.declared M.turn M.first hosted) = λ hosted. record { first_is_state = g.met.M.Module.first_is_state hosted; turns_are_lawful = g.met.M.Module.turns_are_lawful hosted } in
     let sound = c.starts.invariant.sound in
-    let goes : Goes M.declared M.turn M.first lawful c.args.at c.starts.doing.value sound c.into_inner.result c.in-Some.start = record { given = c.into_inner.ensures ∙ c.in_ok-give_states.ensures ∙ ap (λ (x : Doing g.row.M.Denot). given_states x) c.deref_mut.ensures.value; starts = sym c.in-Some.is ∙ c.in_ok-start.ensures ∙ ap (λ (x : Doing g.row.M.Denot). option_map (start_by_call x.member.place.troupe (M.declared x.member.performing.hosted).procedures) (next_start x.member)) (c.deref.ensures ∙ sym c.into_inner.ensures) } in
-    goes_may M.declared M.turn M.first lawful c.args.at c.starts.doing.value sound c.into_inner.result c.in-Some.start goes
+    let goes : Goes M.declared M.turn M.first lawful c.args.at c.starts.doing.value sound c.give_states.new.self c.in-Some.start = record { given = c.in_ok-give_states.ensures ∙ ap (λ (x : Doing g.row.M.Denot). given_states x) c.deref_mut.ensures.value; starts = sym c.in-Some.is ∙ c.in_ok-start.ensures ∙ ap (λ (x : Doing g.row.M.Denot). option_map (start_by_call x.member.place.troupe (M.declared x.member.performing.hosted).procedures) (next_start x.member)) c.deref.ensures } in
+    goes_may M.declared M.turn M.first lawful c.args.at c.starts.doing.value sound c.give_states.new.self c.in-Some.start goes
 
 pub starts-smaller : goal.starts-smaller
 starts-smaller g c =
     let M = g.M.Module in
     let lawful : (hosted : g.row.M.Denot) → IsModule (behaviour M.declared M.turn M.first hosted) = λ hosted. record { first_is_state = g.met.M.Module.first_is_state hosted; turns_are_lawful = g.met.M.Module.turns_are_lawful hosted } in
     let sound = c.starts.invariant.sound in
-    let goes : Goes M.declared M.turn M.first lawful c.args.at c.starts.doing.value sound c.into_inner.result c.in-Some.start = record { given = c.into_inner.ensures ∙ c.in_ok-give_states.ensures ∙ ap (λ (x : Doing g.row.M.Denot). given_states x) c.deref_mut.ensures.value; starts = sym c.in-Some.is ∙ c.in_ok-start.ensures ∙ ap (λ (x : Doing g.row.M.Denot). option_map (start_by_call x.member.place.troupe (M.declared x.member.performing.hosted).procedures) (next_start x.member)) (c.deref.ensures ∙ sym c.into_inner.ensures) } in
-    went_fewer M.declared M.turn M.first lawful c.args.at c.starts.doing.value sound c.into_inner.result c.in_ok-doing-in-Some.doing.value c.in-Some.start goes (c.in_ok-doing-in-Some.ensures ∙ c.in_ok-enter-in-Some.ensures)
+    let goes : Goes M.declared M.turn M.first lawful c.args.at c.starts.doing.value sound c.give_states.new.self c.in-Some.start = record { given = c.in_ok-give_states.ensures ∙ ap (λ (x : Doing g.row.M.Denot). given_states x) c.deref_mut.ensures.value; starts = sym c.in-Some.is ∙ c.in_ok-start.ensures ∙ ap (λ (x : Doing g.row.M.Denot). option_map (start_by_call x.member.place.troupe (M.declared x.member.performing.hosted).procedures) (next_start x.member)) c.deref.ensures } in
+    went_fewer M.declared M.turn M.first lawful c.args.at c.starts.doing.value sound c.give_states.new.self c.in_ok-doing-in-Some.doing.value c.in-Some.start goes c.in_ok-doing-in-Some.ensures
 
 pub starts-preserved : goal.starts-preserved
 starts-preserved g c =
     let M = g.M.Module in
     let lawful : (hosted : g.row.M.Denot) → IsModule (behaviour M.declared M.turn M.first hosted) = λ hosted. record { first_is_state = g.met.M.Module.first_is_state hosted; turns_are_lawful = g.met.M.Module.turns_are_lawful hosted } in
     let sound = c.starts.invariant.sound in
-    let goes : Goes M.declared M.turn M.first lawful c.args.at c.starts.doing.value sound c.into_inner.result c.in-Some.start = record { given = c.into_inner.ensures ∙ c.in_ok-give_states.ensures ∙ ap (λ (x : Doing g.row.M.Denot). given_states x) c.deref_mut.ensures.value; starts = sym c.in-Some.is ∙ c.in_ok-start.ensures ∙ ap (λ (x : Doing g.row.M.Denot). option_map (start_by_call x.member.place.troupe (M.declared x.member.performing.hosted).procedures) (next_start x.member)) (c.deref.ensures ∙ sym c.into_inner.ensures) } in
+    let goes : Goes M.declared M.turn M.first lawful c.args.at c.starts.doing.value sound c.give_states.new.self c.in-Some.start = record { given = c.in_ok-give_states.ensures ∙ ap (λ (x : Doing g.row.M.Denot). given_states x) c.deref_mut.ensures.value; starts = sym c.in-Some.is ∙ c.in_ok-start.ensures ∙ ap (λ (x : Doing g.row.M.Denot). option_map (start_by_call x.member.place.troupe (M.declared x.member.performing.hosted).procedures) (next_start x.member)) c.deref.ensures } in
     record {
-      sound = went_sound M.declared M.turn M.first lawful c.args.at c.starts.doing.value sound c.into_inner.result c.in_ok-doing-in-Some.doing.value c.in-Some.start goes (c.in_ok-doing-in-Some.ensures ∙ c.in_ok-enter-in-Some.ensures);
-      same = went_same M.declared M.turn M.first lawful c.args.at c.starts.doing.value sound c.into_inner.result c.in_ok-doing-in-Some.doing.value c.in-Some.start goes (c.in_ok-doing-in-Some.ensures ∙ c.in_ok-enter-in-Some.ensures) ∙ c.starts.invariant.same;
+      sound = went_sound M.declared M.turn M.first lawful c.args.at c.starts.doing.value sound c.give_states.new.self c.in_ok-doing-in-Some.doing.value c.in-Some.start goes c.in_ok-doing-in-Some.ensures;
+      same = went_same M.declared M.turn M.first lawful c.args.at c.starts.doing.value sound c.give_states.new.self c.in_ok-doing-in-Some.doing.value c.in-Some.start goes c.in_ok-doing-in-Some.ensures ∙ c.starts.invariant.same;
     }
 
 pub returns-in-None : goal.returns-in-None

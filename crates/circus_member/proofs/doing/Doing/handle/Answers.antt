@@ -210,23 +210,19 @@ returns-in_ok-joins-in-Joins-clause-sound g c =
     subst (λ (d : Doing g.row.M.Denot). IsSound (behaviour g.M.Module.declared g.M.Module.turn g.M.Module.first d.member.performing.hosted) d.member) (sym c.in_ok-joins-in-Joins.ensures)
     (sound_joins b lawful m sound)
 
-pub handle_state-requires-clause-sound : goal.handle_state-requires-clause-sound
-handle_state-requires-clause-sound g c =
-    subst (λ (d : Doing g.row.M.Denot). IsSound (behaviour g.M.Module.declared g.M.Module.turn g.M.Module.first d.member.performing.hosted) d.member) (sym (c.into_inner.ensures ∙ c.deref_mut-inside.ensures.value)) c.requires.sound
+pub restore-requires-clause-sound : goal.restore-requires-clause-sound
+restore-requires-clause-sound g c =
+    subst (λ (d : Doing g.row.M.Denot). IsSound (behaviour g.M.Module.declared g.M.Module.turn g.M.Module.first d.member.performing.hosted) d.member) (sym c.deref_mut-inside.ensures.value) c.requires.sound
 
-pub handle_state-requires-clause-state : goal.handle_state-requires-clause-state
-handle_state-requires-clause-state g c =
-    let can : CanHappen (g.M.Module.declared c.into_inner.result.member.performing.hosted) c.into_inner.result.member c.args.occurrence = subst (λ (d : Doing g.row.M.Denot). CanHappen (g.M.Module.declared d.member.performing.hosted) d.member c.args.occurrence) (sym (c.into_inner.ensures ∙ c.deref_mut-inside.ensures.value)) c.requires.can in
+pub restore-requires-clause-state : goal.restore-requires-clause-state
+restore-requires-clause-state g c =
+    let can : CanHappen (g.M.Module.declared c.deref_mut-inside.result.now.member.performing.hosted) c.deref_mut-inside.result.now.member c.args.occurrence = subst (λ (d : Doing g.row.M.Denot). CanHappen (g.M.Module.declared d.member.performing.hosted) d.member c.args.occurrence) (sym c.deref_mut-inside.ensures.value) c.requires.can in
     rw c.in-Restored.is at can
 
-pub returns-in_ok-into_box-in-Restored-clause-kept : goal.returns-in_ok-into_box-in-Restored-clause-kept
-returns-in_ok-into_box-in-Restored-clause-kept g c =
-    c.in_ok-into_box-in-Restored.ensures ∙ c.in_ok-restored-in-Restored.ensures.kept ∙ handled_so c.args.at c.args.occurrence _ c.into_inner.result c.args.doing.value c.in-Restored.is (c.into_inner.ensures ∙ c.deref_mut-inside.ensures.value)
+pub returns-in_ok-restore-in-Restored-clause-kept : goal.returns-in_ok-restore-in-Restored-clause-kept
+returns-in_ok-restore-in-Restored-clause-kept g c =
+    c.in_ok-restore-in-Restored.ensures.kept ∙ handled_so c.args.at c.args.occurrence _ c.deref_mut-inside.result.now c.args.doing.value c.in-Restored.is c.deref_mut-inside.ensures.value
 
-pub returns-in_ok-into_box-in-Restored-clause-told : goal.returns-in_ok-into_box-in-Restored-clause-told
-returns-in_ok-into_box-in-Restored-clause-told g c =
+pub returns-in_ok-restore-in-Restored-clause-told : goal.returns-in_ok-restore-in-Restored-clause-told
+returns-in_ok-restore-in-Restored-clause-told g c =
     rw c.in-Restored.is refl
-
-pub returns-in_ok-into_box-in-Restored-clause-sound : goal.returns-in_ok-into_box-in-Restored-clause-sound
-returns-in_ok-into_box-in-Restored-clause-sound g c =
-    subst (λ (d : Doing g.row.M.Denot). IsSound (behaviour g.M.Module.declared g.M.Module.turn g.M.Module.first d.member.performing.hosted) d.member) (sym c.in_ok-into_box-in-Restored.ensures) c.in_ok-restored-in-Restored.ensures.sound

@@ -1,4 +1,5 @@
 use Rattle.std.proofs.Common.{◌≡◌, ◌≤◌, [], length, sym, subst, ap, ◌∙◌}
+use Rattle.std.specs.Option.{option_to_list}
 use Rattle.circus_limits.specs.Limits.{most_modules}
 use Rattle.circus_model.specs.Behaviour.{IsModule}
 use Rattle.circus_performing.specs.Record.{behaviour}
@@ -78,6 +79,7 @@ returns-clause-rest g c =
     record { begins = begins; handles = c.in_ok-doing.ensures.kept; sound = c.in_ok-doing.ensures.sound; executes = c.in_ok-doing-2.ensures; concerns = c.concern_of-concern.ensures; waits = c.waited-waited.ensures ∙ ap (λ (d : Doing g.row.M.Denot). waited_by d.member) (c.deref.ensures ∙ begins); closes = c.close.ensures ∙ ap (λ (d : Doing g.row.M.Denot). closed_by c.concern_of-concern.result c.waited-waited.result d) c.deref_mut.ensures.value } in
     subst HasGoneOn (sym c.of-member.ensures.member) (has_gone_on M.declared M.turn M.first c.args.at c.args.occurrence m lawful rest c.self.inside.doing.value c.in_ok-doing.doing.value c.in_ok-doing-2.doing.value c.close.new.self c.concern_of-concern.result c.waited-waited.result goes c.look_up.new.self (c.in_ok-look_up.ensures ∙ ap (λ (d : Doing g.row.M.Denot). look_up d) c.deref_mut-2.ensures.value))
 
-pub returns-clause-difference : goal.returns-clause-difference
-returns-clause-difference g c =
-    c.in_ok-doing.ensures.told ∙ ap (λ (m : MemberState g.row.M.Denot). difference c.args.occurrence m) c.self.view_is
+pub returns-clause-differences : goal.returns-clause-differences
+returns-clause-differences g c =
+    c.in_ok-differences.ensures
+    ∙ ap (λ told. option_to_list told) (c.in_ok-doing.ensures.told ∙ ap (λ (m : MemberState g.row.M.Denot). difference c.args.occurrence m) c.self.view_is)

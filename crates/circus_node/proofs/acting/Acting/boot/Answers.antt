@@ -65,24 +65,24 @@ boot-requires g c =
     (is_home c.args.deployment.now c.requires.node a.home (g.M.Module.declared a.hosted) c.requires.deployment (sym c.requires.home_is ∙ a.is-0)
     (c.requires.fits a.home a.hosted a.is-0 a.is-1))
 
-pub returns-in_ok-came-in-Some-Some-clause-acting : goal.returns-in_ok-came-in-Some-Some-clause-acting
-returns-in_ok-came-in-Some-Some-clause-acting g c =
+pub returns-in_ok-member-in-Some-Some-clause-acting : goal.returns-in_ok-member-in-Some-Some-clause-acting
+returns-in_ok-member-in-Some-Some-clause-acting g c =
     let M = g.M.Module in
     let a = c.in-Some-Some in
     let views = c.in_ok-views-in-Some-Some.ensures ∙ c.views.ensures ∙ ap (λ (k : Kept). k.views) c.in_ok-ring.ensures in
     acting_here M.declared M.turn M.first c.args.deployment.now c.args.home c.args.hosted a.home a.hosted c.in_ok-views-in-Some-Some.views c.in_ok-member-in-Some-Some.member
     c.member.result a.is-0 a.is-1 views c.member.ensures c.in_ok-member-in-Some-Some.ensures.member
 
-pub returns-in_ok-came-in-Some-Some-clause-came : goal.returns-in_ok-came-in-Some-Some-clause-came
-returns-in_ok-came-in-Some-Some-clause-came g c =
+pub returns-in_ok-member-in-Some-Some-clause-came : goal.returns-in_ok-member-in-Some-Some-clause-came
+returns-in_ok-member-in-Some-Some-clause-came g c =
     let M = g.M.Module in
     let a = c.in-Some-Some in
     let views = c.in_ok-views-in-Some-Some.ensures ∙ c.views.ensures ∙ ap (λ (k : Kept). k.views) c.in_ok-ring.ensures in
     came_here M.declared M.turn M.first c.args.deployment.now c.args.home c.args.hosted a.home a.hosted c.in_ok-views-in-Some-Some.views c.in_ok-member-in-Some-Some.effects
-    c.in_ok-came-in-Some-Some.came a.is-0 a.is-1 views c.in_ok-came-in-Some-Some.ensures c.in_ok-member-in-Some-Some.ensures.effects
+    c.of-came.result a.is-0 a.is-1 views (c.of-came.ensures ∙ ap (λ ds. consequences c.in_ok-member-in-Some-Some.effects ds) c.new-in-Some-Some.ensures) c.in_ok-member-in-Some-Some.ensures.effects
 
-pub returns-in_ok-came-in-Some-Some-clause-kept : goal.returns-in_ok-came-in-Some-Some-clause-kept
-returns-in_ok-came-in-Some-Some-clause-kept g c =
+pub returns-in_ok-member-in-Some-Some-clause-kept : goal.returns-in_ok-member-in-Some-Some-clause-kept
+returns-in_ok-member-in-Some-Some-clause-kept g c =
     let M = g.M.Module in
     let a = c.in-Some-Some in
     let views = c.in_ok-views-in-Some-Some.ensures ∙ c.views.ensures ∙ ap (λ (k : Kept). k.views) c.in_ok-ring.ensures in
