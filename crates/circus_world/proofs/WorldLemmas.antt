@@ -1,5 +1,5 @@
 -- A world after a step of one of its nodes.
-use Rattle.std.proofs.Common.{◌≡◌, ℕ, ◌+◌, ◌<◌, List, ◌++◌, length, map, set, get_or, Option, Some, Ok, Err, sym, ap, subst, ◌∙◌, arith}
+use Rattle.std.proofs.Common.{◌≡◌, ℕ, ◌+◌, ◌<◌, List, ◌++◌, length, map, set, get_or, Option, Some, Ok, Err, refl, sym, ap, subst, ◌∙◌, arith}
 use Rattle.std.specs.Prelude.{slice_get}
 use Rattle.std.specs.Option.{option_map_or}
 use Rattle.circus_value.specs.ValueTree.{ValueTree}
@@ -9,24 +9,21 @@ use Rattle.circus_model.specs.NextTurn.{NextTurn}
 use Rattle.circus_model.specs.declared.signature.Signature.{Signature}
 use Rattle.circus_node.specs.declared.event.Event.{Event}
 use Rattle.circus_node.specs.declared.event.Give.{Give}
+use Rattle.circus_node.specs.declared.event.StepFault.{StepFault}
+use Rattle.circus_node.specs.declared.event.StepFault.TheVariants as fault
 use Rattle.circus_node.specs.NodeState.{NodeState}
 use Rattle.circus_node.specs.Step as node_step
 use Rattle.circus_world.specs.Sent.{Sent}
 use Rattle.circus_world.specs.declared.slot.Slot.{Slot}
-use Rattle.circus_world.specs.declared.world.Inside.{Inside}
 use Rattle.circus_world.specs.declared.world.Loss.{Loss}
 use Rattle.circus_world.specs.declared.world.Loss.TheVariants as loss
 use Rattle.circus_world.specs.WorldState.{WorldState, Standing}
 use Rattle.circus_world.specs.Course.{sent_by, Stepped, note_at, conclude_step, comes_to}
 use Rattle.circus_world.specs.Seen.Slots.{standing, standings, AreFull, world_of}
 use Rattle.circus_world.specs.Seen.Followed.{IsFollowed}
-use Rattle.circus_world.specs.Seen.Made.{CanMake}
-use Rattle.circus_world.specs.Seen.MadeAt.{IsMadeAt, HasMadeAt, IsSpentAt}
+use Rattle.circus_world.specs.Seen.Made.{CanMake, IsMade}
+use Rattle.circus_world.specs.Seen.MadeAt.{loss_of, IsMadeAt, HasMadeAt, IsSpentAt}
 use Rattle.circus_world.proofs.SlotLemmas.{slot_at, length_full, get_full, set_full, still_full, full_at}
-
--- what is seen of what stands in the box
-abbrev pub inside_of : {M P : Type 0} → Inside M P → WorldState M
-inside_of i = world_of i.deployment i.modules.items i.slots.items i.sent i.steps
 
 module _ {M P : Type 0} where
   -- a node of the world has a slot
@@ -68,6 +65,13 @@ module _ {M P : Type 0} (declared : M → Signature) (turn : M → List ValueTre
       → AreFull old → HasMadeAt declared turn at node event old new gives → AreFull new
   made_full at node event old new gives full h =
       subst (λ (l : List (Slot M P)). AreFull l) (sym h.new_is) (still_full old node h.next h.made.after full (ap (λ (x : Slot M P). x.core) h.made.new_is))
+
+  -- a step of the node at a place that ends so is one after which the world is gone
+  pub lost_at : (at node : ℕ) (event : Event) (old new : List (Slot M P)) (slot next : Slot M P) (f : StepFault)
+      → slice_get old node ≡ Some slot → IsMade declared turn at event slot next (Err f) → IsMadeAt declared turn at node event old new (Err (loss_of node f))
+  lost_at at node event old new slot next fault.NoMemory there made = tt
+  lost_at at node event old new slot next (fault.Spent peer) there made =
+      (refl, record { slot = slot; there = there; before = made.0; core = made.1; stepped_is = made.2 })
 
   comes_there : (d : Deployment) (modules : List M) (steps node : ℕ) (event : Event) (old : List (Slot M P)) (before : List Sent) (slot : Slot M P) (n : NodeState M)
       → AreFull old → slice_get old node ≡ Some slot → slot.core ≡ Some n

@@ -1,6 +1,7 @@
 pub mod Coming
 pub mod Entries
 pub mod Followed
+pub mod Inside
 pub mod Made
 pub mod MadeAt
 pub mod Slots

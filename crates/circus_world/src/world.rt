@@ -14,7 +14,7 @@ ghost use Rattle.circus_world.specs.Answers.{IsStepped, IsBooted};
 ghost use Rattle.circus_world.specs.Seen.Coming.{MayCome};
 ghost use Rattle.circus_world.specs.Seen.Followed.{IsFollowed};
 ghost use Rattle.circus_world.specs.Seen.Made.{CanMake};
-ghost use Rattle.circus_world.specs.Seen.MadeAt.{IsMadeAt, IsBootedAt, AreBooted};
+ghost use Rattle.circus_world.specs.Seen.MadeAt.{loss_of, IsMadeAt, IsBootedAt, AreBooted};
 ghost use Rattle.circus_world.specs.declared.slot.Slot.{Slot as SlotOf};
 
 use crate::legal::is_spare;
@@ -64,17 +64,16 @@ impl<M: Module> Drop for World<M> {
 
 impl<M: Module> Model for World<M> {
     ghost use Rattle.circus_world.specs.WorldState.{WorldState};
-    ghost use Rattle.circus_world.specs.Seen.Slots.{world_of, AreFull};
-    ghost use Rattle.circus_world.specs.Seen.Sound.{IsSound};
+    ghost use Rattle.circus_world.specs.Seen.Inside.{inside_of, IsSoundInside};
     ghost use Rattle.circus_world.specs.Seen.WorldCode.{world_code};
 
     ghost Value = { WorldState M };
 
     ghost coded = { world_code M.code };
 
-    ghost view = { λ a. let i = a.inside.value in world_of i.deployment i.modules.items i.slots.items i.sent i.steps };
+    ghost view = { λ a. inside_of a.inside.value };
 
-    ghost invariant = { λ a. let i = a.inside.value in AreFull i.slots.items × IsSound (world_of i.deployment i.modules.items i.slots.items i.sent i.steps) };
+    ghost invariant = { λ a. IsSoundInside a.inside.value };
 }
 
 /// Why no world boots.
@@ -391,6 +390,18 @@ enum Loss {
     Spent(u16, u16),
 }
 
+impl Loss {
+    // That of a node's step.
+    fn of(node: u16, fault: StepFault) -> Self
+        ensures { result ≡ loss_of node fault }
+    {
+        match fault {
+            StepFault::NoMemory => Loss::NoMemory,
+            StepFault::Spent(peer) => Loss::Spent(node, peer),
+        }
+    }
+}
+
 impl From<NoMemory> for Loss {
     ghost use Rattle.std.specs.Prelude.{◌≡◌};
     ghost use Rattle.circus_world.specs.declared.world.Loss.TheVariants.{NoMemory};
@@ -477,8 +488,7 @@ fn make_at<M: Module>(
 {
     match slots[usize::from(node)].make_step(at, event) {
         Ok(gives) => Ok(gives),
-        Err(StepFault::NoMemory) => Err(Loss::NoMemory),
-        Err(StepFault::Spent(peer)) => Err(Loss::Spent(node, peer)),
+        Err(fault) => Err(Loss::of(node, fault)),
     }
 }
 
@@ -498,8 +508,7 @@ fn hear_at<M: Module>(
 {
     match slots[usize::from(node)].hear(at, from, datagram) {
         Ok(gives) => Ok(gives),
-        Err(StepFault::NoMemory) => Err(Loss::NoMemory),
-        Err(StepFault::Spent(peer)) => Err(Loss::Spent(node, peer)),
+        Err(fault) => Err(Loss::of(node, fault)),
     }
 }
 

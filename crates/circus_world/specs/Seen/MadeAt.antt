@@ -8,6 +8,8 @@ use Rattle.circus_model.specs.declared.signature.Signature.{Signature}
 use Rattle.circus_node.specs.declared.event.Event.{Event}
 use Rattle.circus_node.specs.declared.event.Give.{Give}
 use Rattle.circus_node.specs.declared.event.Outputs.{Outputs}
+use Rattle.circus_node.specs.declared.event.StepFault.{StepFault}
+use Rattle.circus_node.specs.declared.event.StepFault.TheVariants as fault
 use Rattle.circus_node.specs.NodeState.{NodeState}
 use Rattle.circus_node.specs.Step.{step_node}
 use Rattle.circus_node.specs.Booting.{boot_node, IsHosted}
@@ -21,6 +23,11 @@ use Rattle.circus_world.specs.Course.{sent_by}
 use Rattle.circus_world.specs.Boot.{before_any, all_booted, AreHosted}
 use Rattle.circus_world.specs.Seen.Slots.{AreFull, world_of}
 use Rattle.circus_world.specs.Seen.Made.{HasMade}
+
+-- why the world is gone where the step of a node ended so
+abbrev pub loss_of : ℕ → StepFault → Loss
+loss_of node fault.NoMemory = loss.NoMemory
+loss_of node (fault.Spent peer) = loss.Spent node peer
 
 module _ {M P : Type 0} (declared : M → Signature) (turn : M → List ValueTree → ℕ → List ValueTree → List Outcome → NextTurn) where
   -- the node at a place has made a step

@@ -4,9 +4,9 @@ use Rattle.circus_world.specs.Answers.{IsBooted}
 use Rattle.circus_world.specs.Seen.MadeAt.{HaveBooted, AreBooted}
 use Rattle.circus_world.specs.Seen.Slots.{AreFull}
 use Rattle.circus_world.specs.Seen.Sound.{IsSound}
+use Rattle.circus_world.specs.Seen.Inside.{inside_of}
 use Rattle.circus_world.proofs.BootLemmas.{fault_of_world}
 use Rattle.circus_world.proofs.SoundLemmas.{booted_sound}
-use Rattle.circus_world.proofs.WorldLemmas.{inside_of}
 use Rattle.circus_world.proofs.world.World.boot.Goals as goal
 
 pub returns-in_err-boot_all : goal.returns-in_err-boot_all

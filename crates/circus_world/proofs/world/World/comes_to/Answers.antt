@@ -4,11 +4,12 @@ use Rattle.circus_world.specs.WorldState.{WorldState}
 use Rattle.circus_world.specs.Course.{comes_to}
 use Rattle.circus_world.specs.Seen.Coming.{MayCome}
 use Rattle.circus_world.specs.Seen.Followed.{IsFollowed}
+use Rattle.circus_world.specs.Seen.Inside.{inside_of}
 use Rattle.circus_world.specs.Seen.Slots.{AreFull}
 use Rattle.circus_world.specs.Seen.Sound.{IsSound}
 use Rattle.circus_world.proofs.ComeLemmas.{can_come}
 use Rattle.circus_world.proofs.SoundLemmas.{comes_sound}
-use Rattle.circus_world.proofs.WorldLemmas.{inside_of, slot_below, made_full, made_is, fault_followed, can_make}
+use Rattle.circus_world.proofs.WorldLemmas.{slot_below, made_full, made_is, fault_followed, can_make}
 use Rattle.circus_world.proofs.world.World.comes_to.Goals as goal
 
 pub make_at-requires-clause-node : goal.make_at-requires-clause-node

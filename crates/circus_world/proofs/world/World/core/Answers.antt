@@ -4,8 +4,9 @@ use Rattle.circus_node.specs.NodeState.{NodeState}
 use Rattle.circus_world.specs.WorldState.{WorldState}
 use Rattle.circus_world.specs.declared.slot.Slot.{Slot}
 use Rattle.circus_world.specs.Seen.Slots.{AreFull}
+use Rattle.circus_world.specs.Seen.Inside.{inside_of}
 use Rattle.circus_world.proofs.SlotLemmas.{core_of, full_at}
-use Rattle.circus_world.proofs.WorldLemmas.{inside_of, slot_below, slot_in}
+use Rattle.circus_world.proofs.WorldLemmas.{slot_below, slot_in}
 use Rattle.circus_world.proofs.world.World.core.Goals as goal
 
 pub index-requires : goal.index-requires

@@ -4,8 +4,9 @@ use Rattle.circus_world.specs.Course.{pass_step, crash_node}
 use Rattle.circus_world.specs.declared.slot.Slot.{Slot}
 use Rattle.circus_world.specs.Seen.Slots.{AreFull}
 use Rattle.circus_world.specs.Seen.Sound.{IsSound}
+use Rattle.circus_world.specs.Seen.Inside.{inside_of}
 use Rattle.circus_world.proofs.SoundLemmas.{passed_sound, noted_sound}
-use Rattle.circus_world.proofs.WorldLemmas.{inside_of, slot_below, slot_in, noted_full, noted_is}
+use Rattle.circus_world.proofs.WorldLemmas.{slot_below, slot_in, noted_full, noted_is}
 use Rattle.circus_world.proofs.world.World.crash.Goals as goal
 
 pub index_mut-requires : goal.index_mut-requires

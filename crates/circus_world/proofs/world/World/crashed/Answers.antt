@@ -3,8 +3,9 @@ use Rattle.std.specs.Prelude.{slice_get, option_and_then}
 use Rattle.circus_world.specs.WorldState.{WorldState, Standing}
 use Rattle.circus_world.specs.declared.slot.Slot.{Slot}
 use Rattle.circus_world.specs.Seen.Slots.{AreFull}
+use Rattle.circus_world.specs.Seen.Inside.{inside_of}
 use Rattle.circus_world.proofs.SlotLemmas.{crashed_of}
-use Rattle.circus_world.proofs.WorldLemmas.{inside_of, slot_below, slot_in}
+use Rattle.circus_world.proofs.WorldLemmas.{slot_below, slot_in}
 use Rattle.circus_world.proofs.world.World.crashed.Goals as goal
 
 pub index-requires : goal.index-requires

@@ -6,10 +6,10 @@ use Rattle.circus_world.specs.WorldState.{WorldState, is_live}
 use Rattle.circus_world.specs.Course.{Stepped}
 use Rattle.circus_world.specs.Seen.Entries.{sent_as}
 use Rattle.circus_world.specs.Seen.Followed.{IsFollowed}
+use Rattle.circus_world.specs.Seen.Inside.{inside_of}
 use Rattle.circus_world.specs.Seen.Sound.{IsSound}
 use Rattle.circus_world.proofs.ComeLemmas.{goes_there, delivered_at}
 use Rattle.circus_world.proofs.LegalLemmas.{live_so, down_so}
-use Rattle.circus_world.proofs.WorldLemmas.{inside_of}
 use Rattle.circus_world.proofs.world.World.deliver.Goals as goal
 
 pub crashed-requires : goal.crashed-requires

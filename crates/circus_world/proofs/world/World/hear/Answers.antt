@@ -7,11 +7,12 @@ use Rattle.circus_world.specs.WorldState.{WorldState}
 use Rattle.circus_world.specs.Course.{Stepped, comes_to}
 use Rattle.circus_world.specs.Seen.Entries.{sent_as}
 use Rattle.circus_world.specs.Seen.Followed.{IsFollowed}
+use Rattle.circus_world.specs.Seen.Inside.{inside_of}
 use Rattle.circus_world.specs.Seen.Slots.{AreFull}
 use Rattle.circus_world.specs.Seen.Sound.{IsSound}
 use Rattle.circus_world.proofs.ComeLemmas.{can_come, goes_there, datagram_may_come, same_sent}
 use Rattle.circus_world.proofs.SoundLemmas.{comes_sound}
-use Rattle.circus_world.proofs.WorldLemmas.{inside_of, slot_below, made_full, made_is, fault_followed, can_make}
+use Rattle.circus_world.proofs.WorldLemmas.{slot_below, made_full, made_is, fault_followed, can_make}
 use Rattle.circus_world.proofs.world.World.hear.Goals as goal
 
 pub at-sent-requires : goal.at-sent-requires

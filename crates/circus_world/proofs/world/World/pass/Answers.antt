@@ -2,8 +2,8 @@ use Rattle.std.proofs.Common.{sym, ap, subst, ◌∙◌}
 use Rattle.circus_world.specs.Course.{pass_step}
 use Rattle.circus_world.specs.Seen.Slots.{AreFull}
 use Rattle.circus_world.specs.Seen.Sound.{IsSound}
+use Rattle.circus_world.specs.Seen.Inside.{inside_of}
 use Rattle.circus_world.proofs.SoundLemmas.{passed_sound}
-use Rattle.circus_world.proofs.WorldLemmas.{inside_of}
 use Rattle.circus_world.proofs.world.World.pass.Goals as goal
 
 pub invariant_of-result : goal.invariant_of-result

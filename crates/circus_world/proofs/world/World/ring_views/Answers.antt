@@ -4,9 +4,9 @@ use Rattle.circus_node.specs.NodeState.{NodeState, ring_views}
 use Rattle.circus_world.specs.WorldState.{WorldState}
 use Rattle.circus_world.specs.Seen.Slots.{AreFull}
 use Rattle.circus_world.specs.Seen.Sound.{IsSound}
+use Rattle.circus_world.specs.Seen.Inside.{inside_of}
 use Rattle.circus_world.proofs.RingLemmas.{seen, rings, some_node}
 use Rattle.circus_world.proofs.SlotLemmas.{slot_at, length_full, full_at, core_of}
-use Rattle.circus_world.proofs.WorldLemmas.{inside_of}
 use Rattle.circus_world.proofs.world.World.ring_views.Goals as goal
 
 pub unreachable-requires : goal.unreachable-requires

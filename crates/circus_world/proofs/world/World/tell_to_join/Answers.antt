@@ -4,8 +4,9 @@ use Rattle.circus_world.specs.Course.{told_to_join}
 use Rattle.circus_world.specs.declared.slot.Slot.{Slot}
 use Rattle.circus_world.specs.Seen.Slots.{AreFull}
 use Rattle.circus_world.specs.Seen.Sound.{IsSound}
+use Rattle.circus_world.specs.Seen.Inside.{inside_of}
 use Rattle.circus_world.proofs.SoundLemmas.{noted_sound}
-use Rattle.circus_world.proofs.WorldLemmas.{inside_of, slot_below, slot_in, noted_full, noted_is}
+use Rattle.circus_world.proofs.WorldLemmas.{slot_below, slot_in, noted_full, noted_is}
 use Rattle.circus_world.proofs.world.World.tell_to_join.Goals as goal
 
 pub index_mut-requires : goal.index_mut-requires

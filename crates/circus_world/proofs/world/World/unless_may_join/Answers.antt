@@ -3,10 +3,11 @@ use Rattle.circus_world.specs.WorldState.{WorldState, is_live, has_joined}
 use Rattle.circus_world.specs.Legal.{is_spare}
 use Rattle.circus_world.specs.declared.slot.Slot.{Slot}
 use Rattle.circus_world.specs.Seen.Slots.{AreFull}
+use Rattle.circus_world.specs.Seen.Inside.{inside_of}
 use Rattle.circus_world.proofs.SlotLemmas.{joins_of}
 use Rattle.circus_world.proofs.ComeLemmas.{live_then}
 use Rattle.circus_world.proofs.LegalLemmas.{may_join}
-use Rattle.circus_world.proofs.WorldLemmas.{inside_of, slot_below, slot_in}
+use Rattle.circus_world.proofs.WorldLemmas.{slot_below, slot_in}
 use Rattle.circus_world.proofs.world.World.unless_may_join.Goals as goal
 
 pub index-requires : goal.index-requires
