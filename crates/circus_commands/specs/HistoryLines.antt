@@ -16,20 +16,30 @@ abbrev pub asks_lines : Names → ℕ → List Ask → List ℕ
 asks_lines names number [] = []
 asks_lines names number (ask ∷ others) = ask_lines names number ask ++ asks_lines names (number + 1) others
 
+-- the entry of a run
+abbrev pub entry_line : Names → ℕ → Run → List ℕ
+entry_line names place run = run_line place None (names.troupe run.root) run.path run.procedure run.entry run.arguments
+
+-- the end of a run
+abbrev pub ending_line : ℕ → Run → List ℕ
+ending_line place run = end_line place None run.end run.outcome run.state
+
 -- a run with its asks
 abbrev pub run_lines : Names → ℕ → Run → List ℕ
-run_lines names place run =
-    run_line place None (names.troupe run.root) run.path run.procedure run.entry run.arguments
-    ++ asks_lines names 0 run.asks ++ end_line place None run.end run.outcome run.state
+run_lines names place run = entry_line names place run ++ asks_lines names 0 run.asks ++ ending_line place run
 
 -- runs, the first having this place
 abbrev pub runs_lines : Names → ℕ → List Run → List ℕ
 runs_lines names place [] = []
 runs_lines names place (run ∷ others) = run_lines names place run ++ runs_lines names (place + 1) others
 
+-- the name of a module, and how many runs it has
+abbrev pub heading : List ℕ → ℕ → List ℕ
+heading name count = line (codes "module " ++ name ++ codes " count " ++ decimal count)
+
 -- a module with its runs
 abbrev pub module_lines : Names → ℕ → List Run → List ℕ
-module_lines names number runs = line (codes "module " ++ names.troupe number ++ codes " count " ++ decimal (length runs)) ++ runs_lines names 0 runs
+module_lines names number runs = heading (names.troupe number) (length runs) ++ runs_lines names 0 runs
 
 -- modules, the first having this number
 abbrev pub modules_lines : Names → ℕ → List (List Run) → List ℕ

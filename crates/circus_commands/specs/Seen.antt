@@ -1,2 +1,3 @@
 -- How code is seen.
 pub mod Ending
+pub mod Upshot

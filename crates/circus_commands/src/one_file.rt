@@ -1,10 +1,9 @@
 // The commands of one file.
-ghost use Rattle.std.specs.Prelude.{IsTrue, IfOk};
+ghost use Rattle.std.specs.Prelude.{IfOk};
 ghost use Rattle.circus_commands.specs.OneFile.{IsEndOf};
-ghost use Rattle.circus_commands.specs.Seen.Ending.{ending_of};
-ghost use Rattle.circus_commands.specs.Status.{is_end};
+ghost use Rattle.circus_commands.specs.Seen.Upshot.{end_of_upshot, CanBeWritten};
 
-use crate::Ending;
+use crate::Upshot;
 use crate::placed::end_of_placing;
 use crate::stubs::stubs;
 use crate::unreplicated::end_of_unreplicated;
@@ -24,13 +23,13 @@ pub enum OneFile {
 
 /// What comes of the bytes of the command's file: a status of `Done`, `BadProgram`, `BadPlacing` or `NoPlacement`, and what
 /// is written. `NoMemory` is the one fault.
-pub fn end_of(alloc: Global, command: OneFile, bytes: &[u8]) -> Result<Ending, NoMemory>
-    ensures ending { IfOk result (λ ending. IsEndOf command bytes.now (ending_of ending)) }
-    ensures status { IfOk result (λ ending. IsTrue (is_end ending.status)) }
+pub fn end_of(alloc: Global, command: OneFile, bytes: &[u8]) -> Result<Upshot, NoMemory>
+    ensures ending { IfOk result (λ upshot. IsEndOf command bytes.now (end_of_upshot upshot)) }
+    ensures ready { IfOk result CanBeWritten }
 {
     match command {
-        OneFile::Stubs => stubs(alloc, bytes),
+        OneFile::Stubs => Ok(Upshot::Text(stubs(alloc, bytes)?)),
         OneFile::Run => end_of_unreplicated(alloc, bytes),
-        OneFile::Place => end_of_placing(alloc, bytes),
+        OneFile::Place => Ok(Upshot::Text(end_of_placing(alloc, bytes)?)),
     }
 }

@@ -5,7 +5,7 @@ use Rattle.circus_outside.specs.Told.{told_more}
 use Rattle.circus_program.specs.declared.answer.Step.{Step}
 use Rattle.circus_config.specs.declared.plan.Plan.{Plan}
 use Rattle.circus_config.specs.Program.{IsProgramOf}
-use Rattle.circus_program.specs.declared.answer.Step.TheVariants.{Finish, Lack, Replay, Serve}
+use Rattle.circus_program.specs.declared.answer.Step.TheVariants.{Finish, Lack, History, Replay, Serve}
 use Rattle.circus_commands.specs.declared.one_file.OneFile.TheVariants.{Stubs, Run, Place}
 use Rattle.circus_program.specs.Form.{CommandForm, stubs, run, node, sample, draw, settle, place, IsOfForm, replay, picture, audit, second_form}
 use Rattle.circus_program.specs.declared.answer.Command.{Command}
@@ -134,5 +134,6 @@ bytes-good program plan IsNext (Err e) means is = tt
 pub noted-none : (fetched : Option (List (List ℕ))) (old new : ℕ) (step : Step) → LacksNone step → IsLackNoted fetched old new step
 noted-none fetched old new (Finish ending) none = tt
 noted-none fetched old new (Lack name) none = absurd none
+noted-none fetched old new (History performance) none = tt
 noted-none fetched old new (Replay ready) none = tt
 noted-none fetched old new (Serve plan number turns) none = tt

@@ -26,7 +26,7 @@ use Rattle.circus_program.specs.Agreeing.{WritesAgreed, WritesAgreedSoFar}
 use Rattle.circus_program.specs.Promise.{WritesKept, WritesKeptSoFar}
 use Rattle.circus_program.specs.Replayed.{AreShort, WritesReplayed}
 use Rattle.circus_program.specs.declared.answer.Step.{Step}
-use Rattle.circus_program.specs.declared.answer.Step.TheVariants.{Finish, Lack, Replay, Serve}
+use Rattle.circus_program.specs.declared.answer.Step.TheVariants.{Finish, Lack, History, Replay, Serve}
 use Rattle.circus_program.specs.declared.answer.Command.{Command}
 use Rattle.circus_program.specs.declared.answer.Command.TheVariants.{End, OfPlan}
 use Rattle.circus_program.specs.declared.answer.Task.{Task}
@@ -141,6 +141,7 @@ no_end status none is = cc
 pub end_lacks_none : (step : Step) (told tells : Tells) (old new : Option (List ℕ)) (before after : ℕ) (status result : Status) (SinkRose : Type 0) → IsPutStep told tells step old new before after status
     → IsFinished status SinkRose result → IsTrue (is_end result) → LacksNone step
 end_lacks_none (Finish ending) told tells old new before after status result SinkRose put finished is = tt
+end_lacks_none (History performance) told tells old new before after status result SinkRose put finished is = tt
 end_lacks_none (Replay ready) told tells old new before after status result SinkRose put finished is = tt
 end_lacks_none (Serve plan number turns) told tells old new before after status result SinkRose put finished is = tt
 end_lacks_none (Lack name) told tells old new before after status result SinkRose (inl (ending, written, put)) finished is =

@@ -4,6 +4,7 @@ pub mod Pieces
 pub mod OneLine
 pub mod Drawn
 pub mod Following
+pub mod Putting
 pub mod Stepping
 pub mod ReadyLemmas
 pub mod ReplayEnds

@@ -7,9 +7,10 @@ use Rattle.circus_commands.specs.Status.{is_end}
 use Rattle.circus_outside.specs.Faults.{Rose}
 use Rattle.circus_report.specs.Writing.{Writes, WritesPart}
 use Rattle.circus_program.specs.declared.answer.Step.{Step}
-use Rattle.circus_program.specs.declared.answer.Step.TheVariants.{Finish, Lack, Replay, Serve}
+use Rattle.circus_program.specs.declared.answer.Step.TheVariants.{Finish, Lack, History, Replay, Serve}
 use Rattle.circus_commands.specs.Ending.{Ending}
 use Rattle.circus_commands.specs.Seen.Ending.{ending_of}
+use Rattle.circus_commands.specs.Seen.Upshot.{end_of_performance}
 use Rattle.circus_config.specs.declared.plan.Plan.{Plan}
 use Rattle.circus_serve.specs.Outside.{Tells}
 use Rattle.circus_simulation.specs.Seen.Simulated.{world_of}
@@ -38,6 +39,7 @@ serving_is_end plan number turns told tells ending (inr (peer, booted, same, is)
 pub unserved : (shelf : Option (List ℕ → Option (List ℕ))) (words : List (List ℕ)) (step : Step) → IsDue shelf words (due_of step) → (AsksForNode words → ⊥) → IsServing step → ⊥
 unserved shelf words (Finish ending) due none serving = serving
 unserved shelf words (Lack name) due none serving = serving
+unserved shelf words (History performance) due none serving = serving
 unserved shelf words (Replay ready) due none serving = serving
 unserved shelf words (Serve plan number turns) due none serving = none (serves_asked shelf words plan number turns due)
 
@@ -172,6 +174,7 @@ module _ (shelf : Option (List ℕ → Option (List ℕ))) (words : List (List �
   answer-step : (step : Step) (ending : Ending) (before after : ℕ) (result : Status) → IsDue shelf words (due_of step) → Stands step → IsLackNoted fetched before after step → (Rose before after → ShelfRose)
       → (result ≡ LinkFault → IsServing step → LinkRose) → IsWrittenOf told tells step ending → IsGiven ending.status ending.text old new SinkRose result → Answers result
   answer-step (Finish own) ending before after result due stands noted rose linked written given = answer-end (ending_of own) ending result stands due written.0 written.1 given
+  answer-step (History performance) ending before after result due stands noted rose linked written given = answer-end (end_of_performance performance) ending result refl due written.0 written.1 given
   answer-step (Replay ready) ending before after result due stands noted rose linked written given =
       answer-end (end_of_ready ready) ending result
       (end_by_is_end ready.procedures (names_of ready.simulated.hosts ready.simulated.names) ready.lines (world_of ready.simulated.world)) due written.0 written.1 given

@@ -2,15 +2,16 @@
 ghost use Rattle.std.specs.Prelude.{◌≡◌, ◌≤◌, ◌∷◌, [], length, map, string_bytes, IfOk};
 ghost use Rattle.circus_outside.specs.Limits.{longest_contents};
 ghost use Rattle.circus_program.specs.Seen.Words.{form_of};
-ghost use Rattle.circus_program.specs.Answer.{IsDue, IsDueOfSecond, AsksOnly, AsksFirstOf};
+ghost use Rattle.circus_program.specs.Answer.{finish, IsDue, IsDueOfSecond, AsksOnly, AsksFirstOf};
 ghost use Rattle.circus_config.specs.Program.{IsPlan};
+ghost use Rattle.circus_commands.specs.Seen.Upshot.{end_of_upshot, CanBeWritten};
 
 use crate::audited::audit_record;
 use crate::ready::{Ready, prepare};
 use crate::second::Second;
 use crate::shown::Shown;
 use crate::words::{CommandForm, read_words};
-use circus_commands::{Ending, OneFile, Status, end_of, plan_of};
+use circus_commands::{Ending, OneFile, Performance, Status, Upshot, end_of, plan_of};
 use circus_config::Plan;
 use circus_node_command::{no_node, node_named};
 use circus_outside::{Shelf, ShelfFault};
@@ -18,12 +19,13 @@ use circus_simulation::{draw_plan, sample_plan, settle_plan};
 use circus_value::NoMemory;
 use std::alloc::{AllocError, Global};
 
-/// What a command comes to: its end, a file that the shelf doesn't give, a replay that may begin, or a node of a plan that is
-/// to be served for so many takes.
+/// What a command comes to: its end, a file that the shelf doesn't give, the history of a program, a replay that may begin, or
+/// a node of a plan that is to be served for so many takes.
 #[derive(Drop)]
 pub enum Step<'a> {
     Finish(Ending),
     Lack(&'a str),
+    History(Performance),
     Replay(Ready),
     Serve(Plan, u16, u32),
 }
@@ -170,6 +172,19 @@ fn of_plan<'a>(alloc: Global, plan: Plan, task: Task<'_>) -> Result<Step<'a>, No
     }
 }
 
+// What a command of one file comes to.
+fn step_of<'a>(upshot: Upshot) -> Step<'a>
+    requires { CanBeWritten upshot }
+    ensures due { due_of result ≡ finish (end_of_upshot upshot) }
+    ensures stands { Stands result }
+    ensures whole { LacksNone result }
+{
+    match upshot {
+        Upshot::Text(ending) => Step::Finish(ending),
+        Upshot::History(performance) => Step::History(performance),
+    }
+}
+
 // What comes of the bytes of a file.
 fn of_bytes<'a>(alloc: Global, command: Command<'_>, bytes: &[u8]) -> Result<Step<'a>, NoMemory>
     ensures due { IfOk result (λ step. IsDueOfCommand command.entry bytes.now (due_of step)) }
@@ -178,7 +193,7 @@ fn of_bytes<'a>(alloc: Global, command: Command<'_>, bytes: &[u8]) -> Result<Ste
     ensures known { IfOk result (λ _. AreKnownBy command.entry bytes.now) }
 {
     match command {
-        Command::End(command) => Ok(Step::Finish(end_of(alloc, command, bytes)?)),
+        Command::End(command) => Ok(step_of(end_of(alloc, command, bytes)?)),
         Command::OfPlan(task) => match plan_of(alloc, bytes)? {
             Ok(plan) => of_plan(alloc, plan, task),
             Err(refused) => Ok(Step::Finish(refused)),

@@ -12,6 +12,7 @@ ghost use Rattle.circus_program.specs.Seen.Put.{IsAnswer, IsFinished};
 ghost use Rattle.circus_program.specs.Seen.Step.{IsPutStep, IsServing, Stands};
 
 use crate::answer::{Step, follow};
+use crate::history::put_history;
 use crate::put::put_end;
 use crate::replay::replay;
 use circus_commands::{Ending, Status};
@@ -22,7 +23,7 @@ use std::alloc::Global;
 
 /// Does what the words ask for: fetches files from the shelf, writes to the sink line by line, and answers the status
 /// (docs/GUIDE.md, "Statuses"). The link is used by `node` alone. The report of a replay is written as its lines are
-/// stepped, its picture once all are.
+/// stepped, its picture once all are, and the history of a program ask by ask once it is performed.
 ///
 /// - 0: the stubs or the history of a program, the report of a replay or its picture, the record of a node, the summary of a
 ///   sample, its lines, what a program has settled to, the best choice of a placing, or that a record is a true one is written.
@@ -121,6 +122,7 @@ fn write<K: Sink, L: Link>(alloc: Global, step: Step<'_>, sink: &mut K, link: &m
 {
     match step {
         Step::Finish(ending) => put_end(Ok(ending), sink),
+        Step::History(performance) => put_history(alloc, performance, sink),
         Step::Replay(ready) => replay(alloc, ready, sink),
         Step::Lack(name) => put_end(lack(alloc, name), sink),
         Step::Serve(plan, node, turns) => {

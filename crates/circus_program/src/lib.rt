@@ -2,7 +2,8 @@
 //!
 //! `words` reads the command line, and `answer` fetches and decides. `second` says what a second file is, and `shown` tells a report
 //! from a picture. `ready` boots the world of a replay, `replay` runs it, `drawing` draws it, `end_of_lines` puts what ends it too early,
-//! and `schedule_refused` says why a line is refused. `audited` audits a record. `put` writes, and `call` is the top call itself.
+//! and `schedule_refused` says why a line is refused. `history` puts what a program performs unreplicated. `audited` audits a
+//! record. `put` writes, and `call` is the top call itself.
 //! `laws` says what holds of all words and files.
 #![tactic(auto)]
 
@@ -11,6 +12,7 @@ mod audited;
 mod call;
 mod drawing;
 mod ended;
+mod history;
 mod laws;
 mod put;
 mod ready;

@@ -1,8 +1,8 @@
-use Rattle.std.proofs.Common.{refl, sym, subst, IfOk, IfErr}
+use Rattle.std.proofs.Common.{sym, subst, IfOk, IfErr}
 use Rattle.circus_config.specs.Program.{IsProgramOf}
 use Rattle.circus_commands.specs.Refusal.{IsEndOfRefused}
 use Rattle.circus_commands.specs.Seen.Ending.{ending_of}
-use Rattle.circus_program.specs.Answer.{finish}
+use Rattle.circus_commands.specs.Seen.Upshot.{end_of_upshot}
 use Rattle.circus_program.specs.Seen.Asked.{IsDueOfTask, IsDueOfCommand}
 use Rattle.circus_program.specs.Seen.Step.{due_of}
 use Rattle.circus_program.specs.Seen.Known.{AreKnownBy}
@@ -14,7 +14,7 @@ use Rattle.circus_program.proofs.answer.of_bytes.Goals as goal
 pub returns-in_ok-end_of-in-End-clause-due : goal.returns-in_ok-end_of-in-End-clause-due
 returns-in_ok-end_of-in-End-clause-due c =
     let end = c.in_ok-end_of-in-End in
-    subst (λ (command : Command). IsDueOfCommand command c.args.bytes.now (finish (ending_of end.field-0))) (sym c.in-End.is) (ending_of end.field-0, end.ensures.ending, refl)
+    subst (λ (command : Command). IsDueOfCommand command c.args.bytes.now (due_of c.step_of.result)) (sym c.in-End.is) (end_of_upshot end.field-0, end.ensures.ending, c.step_of.ensures.due)
 
 pub returns-in-Ok-clause-due : goal.returns-in-Ok-clause-due
 returns-in-Ok-clause-due c =
