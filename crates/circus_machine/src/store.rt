@@ -12,7 +12,9 @@ ghost use Rattle.circus_machine.specs.Seen.Changing.{changed_over, AreSized, Res
 use circus_checked::{CheckedPlace, NumberKind};
 use circus_evaluate::{Given, NoValue, Put, as_kind, part_at, put_item, steps_of};
 use circus_model::LanguageError;
-use circus_value::{Duplicate, ListOf, NoMemory, State, Value, Values, external_size, values_size};
+use circus_value::{
+    Duplicate, ListOf, NoMemory, State, Value, Values, ValuesBuilder, external_size, values_size,
+};
 use std::alloc::Global;
 
 /// The variables of an execution with the sizes of their external forms, which are kept as they change.
@@ -120,7 +122,7 @@ struct Sizes {
 }
 
 // Adds copies of values at the end. After `NoMemory` some of them may have been added.
-fn append_copies(values: &mut Values, more: &Values) -> Result<(), NoMemory>
+fn append_copies(values: &mut ValuesBuilder, more: &Values) -> Result<(), NoMemory>
     ensures { OnOk result (values.new ≡ values.old ++ more.now) }
 {
     for value in more.as_slice() {
@@ -134,11 +136,11 @@ fn sizes_of(alloc: Global, values: &Values) -> Result<ListOf<u64>, NoMemory>
     requires { All (λ t. external_size t < 4294967296) values.now }
     ensures { IfOk result (λ sizes. sizes ≡ map external_size values.now) }
 {
-    let mut sizes = ListOf::new(alloc);
+    let mut sizes = Vec::with_capacity(alloc, values.len())?;
     for value in values.as_slice() {
         sizes.push(external_size(value))?;
     }
-    Ok(sizes)
+    Ok(ListOf::of(sizes))
 }
 
 impl Variables {
@@ -159,9 +161,12 @@ impl Variables {
     {
         let states = state.len();
         let state_size = values_size(&state);
-        let mut values = state;
-        append_copies(&mut values, arguments)?;
-        append_copies(&mut values, locals)?;
+        let others = arguments.len().saturating_add(locals.len());
+        let mut all = ValuesBuilder::with_capacity(alloc, states.saturating_add(others))?;
+        append_copies(&mut all, &state)?;
+        append_copies(&mut all, arguments)?;
+        append_copies(&mut all, locals)?;
+        let values = all.finish()?;
         let sizes = sizes_of(alloc, &values)?;
         Ok(Variables {
             values,
@@ -175,14 +180,14 @@ impl Variables {
     pub fn state(&self, alloc: Global) -> Result<State, NoMemory>
         ensures { IfOk result (λ state. state ≡ take self.now.states self.now.values) }
     {
-        let mut state = Values::new(alloc);
+        let mut state = ValuesBuilder::with_capacity(alloc, self.states)?;
         for place in 0..self.states {
             let Some(value) = self.values.get(place) else {
-                return Ok(state);
+                return Ok(state.finish()?);
             };
             state.push(value.copy()?)?;
         }
-        Ok(state)
+        Ok(state.finish()?)
     }
 
     /// The state, without the other variables.
