@@ -43,10 +43,8 @@ fn put_all<N: Naming, K: Sink>(
     ensures count { OnOk result (K.faults sink.new ≡ K.faults sink.old) }
 {
     let mut text = String::new(alloc);
-    match put_added(Ok(()), "circus history 1\n".as_bytes(), sink) {
-        Ok(()) => put_modules(&mut text, names, modules, sink),
-        Err(fault) => Err(fault),
-    }
+    put_added(Ok(()), "circus history 1\n".as_bytes(), sink)?;
+    put_modules(&mut text, names, modules, sink)
 }
 
 // Puts modules with their runs. What is put stands in the text until it is.
@@ -63,10 +61,7 @@ fn put_modules<N: Naming, K: Sink>(
     ensures count { OnOk result (K.faults sink.new ≡ K.faults sink.old) }
 {
     for (number, runs) in modules.iter().enumerate() {
-        match put_module(text, names, number, runs, sink) {
-            Ok(()) => {}
-            Err(fault) => return Err(fault),
-        }
+        put_module(text, names, number, runs, sink)?;
     }
     Ok(())
 }
@@ -85,10 +80,8 @@ fn put_module<N: Naming, K: Sink>(
         → Rose (K.faults sink.old) (K.faults sink.new) }
     ensures count { OnOk result (K.faults sink.new ≡ K.faults sink.old) }
 {
-    match put_heading(text, names.troupe(number), runs.len(), sink) {
-        Ok(()) => put_runs(text, names, runs.as_slice(), sink),
-        Err(fault) => Err(fault),
-    }
+    put_heading(text, names.troupe(number), runs.len(), sink)?;
+    put_runs(text, names, runs.as_slice(), sink)
 }
 
 // Puts the name of a module, and how many runs it has.
@@ -123,10 +116,7 @@ fn put_runs<N: Naming, K: Sink>(
     ensures count { OnOk result (K.faults sink.new ≡ K.faults sink.old) }
 {
     for (place, run) in runs.iter().enumerate() {
-        match put_run(text, names, place as u128, run, sink) {
-            Ok(()) => {}
-            Err(fault) => return Err(fault),
-        }
+        put_run(text, names, place as u128, run, sink)?;
     }
     Ok(())
 }
@@ -145,14 +135,9 @@ fn put_run<N: Naming, K: Sink>(
         → Rose (K.faults sink.old) (K.faults sink.new) }
     ensures count { OnOk result (K.faults sink.new ≡ K.faults sink.old) }
 {
-    match put_entry(text, names, place, run, sink) {
-        Ok(()) => {}
-        Err(fault) => return Err(fault),
-    }
-    match put_asks(text, names, run.asks.as_slice(), sink) {
-        Ok(()) => put_end(text, place, run, sink),
-        Err(fault) => Err(fault),
-    }
+    put_entry(text, names, place, run, sink)?;
+    put_asks(text, names, run.asks.as_slice(), sink)?;
+    put_end(text, place, run, sink)
 }
 
 // Puts the entry of a run.
@@ -201,10 +186,7 @@ fn put_asks<N: Naming, K: Sink>(
     ensures count { OnOk result (K.faults sink.new ≡ K.faults sink.old) }
 {
     for (number, ask) in asks.iter().enumerate() {
-        match put_ask(text, names, number, ask, sink) {
-            Ok(()) => {}
-            Err(fault) => return Err(fault),
-        }
+        put_ask(text, names, number, ask, sink)?;
     }
     Ok(())
 }
